@@ -1,0 +1,9 @@
+pub mod NameLemmas
+pub mod ScopeLemmas
+pub mod Turns
+pub mod StepLemmas
+pub mod ExpressionComplete
+pub mod ExpressionSound
+pub mod StatementComplete
+pub mod StatementSound
+pub mod UnitLemmas

@@ -1,0 +1,79 @@
+//! What programs print.
+
+use crate::tools::play;
+use std::test::Fail;
+
+#[test]
+fn programs_print_what_they_mean(rt: HostRuntime) -> Result<(), Fail> {
+    let cases: [(&str, &str); 10] = [
+        (
+            "void f(void) { int i = 1; while (i <= 3) { printf(\"%d\\n\", i); i = i + 1; } }",
+            "1\n2\n3\n",
+        ),
+        ("void f(void) { }", ""),
+        // sums group to the left and wrap
+        (
+            "void f(void) { printf(\"%d\\n\", 2147483647 + 1); }",
+            "-2147483648\n",
+        ),
+        (
+            "void f(void) { printf(\"%d\\n\", 2147483647 + 1 + 2147483647 + 1); }",
+            "0\n",
+        ),
+        // a comparison binds less than a sum, and is 1 or 0
+        (
+            "void f(void) { printf(\"%d\\n\", 1 + 1 <= 2); printf(\"%d\\n\", 3 <= 2); }",
+            "1\n0\n",
+        ),
+        ("void f(void) { printf(\"%d\\n\", 5 <= 4 <= 0); }", "1\n"),
+        // an inner name hides an outer one, and only inside its block
+        (
+            "void f(void) { int x = 1; { int x = 2; printf(\"%d\\n\", x); } printf(\"%d\\n\", x); }",
+            "2\n1\n",
+        ),
+        // a name means itself in its own first value, where it is zero
+        (
+            "void f(void) { int x = 7; { int x = x + 1; printf(\"%d\\n\", x); } }",
+            "1\n",
+        ),
+        // a block begins anew at each turn
+        (
+            "void f(void) { int i = 0; while (i <= 1) { int n = n + 1; printf(\"%d\\n\", n); i = i + 1; } }",
+            "1\n1\n",
+        ),
+        // another function of the text is not run
+        (
+            "void g(void) { printf(\"%d\\n\", 1); } void f(void) { printf(\"%d\\n\", 2); }",
+            "2\n",
+        ),
+    ];
+    for (source, out) in cases {
+        let left = play(rt.alloc(), source.as_bytes())?;
+        assert_eq!(rt; left.status, 0, "{source}");
+        assert_eq!(rt; left.out.as_slice(), out.as_bytes(), "{source}");
+        assert_eq!(rt; left.err.len(), 0, "{source}");
+    }
+    Ok(())
+}
+
+#[test]
+fn a_loop_without_end_is_spent(rt: HostRuntime) -> Result<(), Fail> {
+    let left = play(rt.alloc(), b"void f(void) { while (1 <= 3) { } }")?;
+    assert_eq!(rt; left.status, 8);
+    assert_eq!(rt;
+        left.out.as_slice(),
+        b"worker 1: line 1: Spent\n".as_slice()
+    );
+    assert_eq!(rt; left.err.len(), 0);
+    // the line is that of the loop, and what was printed before stands before it
+    let left = play(
+        rt.alloc(),
+        b"void f(void) {\n  printf(\"%d\\n\", 5);\n  int i = 0;\n  while (0 <= 1)\n    i =\n i + 1; }",
+    )?;
+    assert_eq!(rt; left.status, 8);
+    assert_eq!(rt;
+        left.out.as_slice(),
+        b"5\nworker 1: line 4: Spent\n".as_slice()
+    );
+    Ok(())
+}

@@ -1,0 +1,297 @@
+-- What a refusal, or a run, says of the status.
+use Rattle.std.proofs.Common.{◌≡◌, ◌≢◌, ℕ, ◌<◌, ◌≤◌, ◌⊎◌, inl, inr, Bool, true, false, List, [], ◌∷◌, length, Option, Some, None, refl, sym, ap, subst, ◌∙◌, arith}
+use Rattle.std.specs.Prelude.{IfSome, IsTrue}
+use Rattle.std.proofs.lemmas.Bool.{cases_lt}
+use Rattle.plain_meaning.specs.declared.record.Ending.{Ending}
+use Rattle.plain_meaning.specs.declared.record.Ending.TheVariants.{Finished, Spent}
+use Rattle.plain_meaning.specs.declared.record.Record.{Record}
+use Rattle.plain_meaning.specs.declared.tree.Program.{Program}
+use Rattle.plain_meaning.specs.Names.{Named, IsEntry, HasNone}
+use Rattle.plain_meaning.specs.Run.{Run, worker}
+use Rattle.effsan_top.specs.Streams.{max_text}
+use Rattle.effsan_top.specs.Words.{Words, entry_of}
+use Rattle.effsan_top.specs.Programs.{IsProgram, HasNoProgram}
+use Rattle.effsan_top.specs.Lines as line
+use Rattle.effsan_top.specs.Lines.{status_of}
+use Rattle.effsan_top.specs.Causes.{IsTooLarge, Accepts, IsOutside, LacksEntry, IsRefused, Ends, Finishes, Stops, HasRun, Exactly, ExactlyWritten, OfText, HasCause, is_answer, is_run, is_status, run_status, setting_of}
+use Rattle.effsan_top.specs.Answers.{IsOnlyProgram, RunsText, LacksName, HasTextCause, OfRead, HasReadCause, HasNoRunFor, RunsFor}
+use Rattle.effsan_top.specs.Refusals.{seen}
+use Rattle.effsan_top.specs.Errors.{of_program}
+use Rattle.effsan_top.specs.declared.program.ProgramError.{ProgramError}
+use Rattle.effsan_top.specs.declared.program.ProgramError.TheVariants as error
+
+-- What the statuses that have a cause in the text say of this one.
+pub record Told (name text : List ℕ) (status : ℕ) : Type 0 where
+  pub too_large : Exactly 7 status (IsTooLarge text)
+  pub refused : Exactly 3 status (IsRefused name text)
+  pub finished : ExactlyWritten 0 status (Finishes name text)
+  pub stopped : ExactlyWritten 8 status (Stops name text)
+
+-- neither the status nor its cause is there
+apart : (expected status : ℕ) (C : Type 0) → (status ≡ expected → ⊥) → (C → ⊥) → Exactly expected status C
+apart expected status C other none = (λ is. absurd (other is), λ has. absurd (none has))
+
+apart_written : (expected status : ℕ) (C : Type 0) → (status ≡ expected → ⊥) → (C → ⊥) → ExactlyWritten expected status C
+apart_written expected status C other none = (λ is. absurd (other is), λ has. absurd (none has))
+
+-- a read fault, or want of memory, in the place of any other
+in_place : (name text : List ℕ) (status : ℕ) → (status ≡ 4) ⊎ (status ≡ 6) → Told name text status
+in_place name text status (inl is) = record {
+  too_large = (λ e. absurd (omega arith), λ _. inr (inl is));
+  refused = (λ e. absurd (omega arith), λ _. inr (inl is));
+  finished = (λ e. absurd (omega arith), λ _. inr (inr (inl is)));
+  stopped = (λ e. absurd (omega arith), λ _. inr (inr (inl is)));
+}
+in_place name text status (inr is) = record {
+  too_large = (λ e. absurd (omega arith), λ _. inr (inr is));
+  refused = (λ e. absurd (omega arith), λ _. inr (inr is));
+  finished = (λ e. absurd (omega arith), λ _. inr (inr (inr is)));
+  stopped = (λ e. absurd (omega arith), λ _. inr (inr (inr is)));
+}
+
+entry_one : (program : Program) (name : List ℕ) (a b : ℕ) → IsEntry program name a → IsEntry program name b → a ≡ b
+entry_one program name a b p q = elim (cases_lt a b) [
+  | inl low ↦ absurd (q.first a low p.named)
+  | inr high ↦ elim (cases_lt b a) [
+    | inl low ↦ absurd (p.first b low q.named)
+    | inr most ↦ omega arith
+  ]
+]
+
+no_end : (name text : List ℕ) (ending : Ending) → HasNoProgram text → Ends name text ending → ⊥
+no_end name text ending none e = none e.program e.accepted.read
+
+no_end_lacking : (name text : List ℕ) (ending : Ending) → LacksName name text → Ends name text ending → ⊥
+no_end_lacking name text ending l e =
+    let same = l.read.only e.program e.accepted.read in
+    l.missing e.entry (subst (λ p. Named p e.entry name) same e.accepted.named.named)
+
+-- ---- a refusal
+
+by_refusal : (name text : List ℕ) (read : Type 0) (refusal : line.Refusal) → HasReadCause name (Some text) read refusal → Told name text (status_of refusal)
+by_refusal name text read line.Words h = absurd h
+by_refusal name text read line.ReadFault h = in_place name text 4 (inl refl)
+by_refusal name text read line.TooLarge h = record {
+  too_large = (λ _. h, λ _. inl refl);
+  refused = apart 3 7 _ (λ e. omega arith) (λ r. elim r [ inl o ↦ (let fits = o.fits in omega arith) | inr l ↦ (let fits = l.fits in omega arith) ]);
+  finished = apart_written 0 7 _ (λ e. omega arith) (λ r. let fits = r.accepted.fits in omega arith);
+  stopped = apart_written 8 7 _ (λ e. omega arith) (λ r. let fits = r.1.accepted.fits in omega arith);
+}
+by_refusal name text read line.NotYet h = record {
+  too_large = apart 7 3 _ (λ e. omega arith) (λ large. omega (arith, h.0, large));
+  refused = (λ _. inl (record { fits = h.0; unread = h.1 }), λ _. inl refl);
+  finished = apart_written 0 3 _ (λ e. omega arith) (λ r. no_end name text Finished h.1 r);
+  stopped = apart_written 8 3 _ (λ e. omega arith) (λ r. no_end name text (Spent r.0) h.1 r.1);
+}
+by_refusal name text read (line.NotFound missing) h = record {
+  too_large = apart 7 3 _ (λ e. omega arith) (λ large. omega (arith, h.1.0, large));
+  refused = (λ _. inr (record { fits = h.1.0; program = h.1.1.program; read = h.1.1.read.is; missing = h.1.1.missing }), λ _. inl refl);
+  finished = apart_written 0 3 _ (λ e. omega arith) (λ r. no_end_lacking name text Finished h.1.1 r);
+  stopped = apart_written 8 3 _ (λ e. omega arith) (λ r. no_end_lacking name text (Spent r.0) h.1.1 r.1);
+}
+by_refusal name text read line.OutOfMemory h = in_place name text 6 (inr refl)
+by_refusal name text read line.WriteFault h = absurd h
+
+-- the words of a refusal that is not of the words
+asked_by : (words : Words) (left : Option (List ℕ)) (read : Type 0) (refusal : line.Refusal) → HasNoRunFor words left read refusal →
+    ((entry_of words ≡ None) × (refusal ≡ line.Words)) ⊎ ((name : List ℕ) × (entry_of words ≡ Some name) × HasReadCause name left read refusal)
+asked_by words left read line.Words h = inl (h, refl)
+asked_by words left read line.ReadFault h = inr h
+asked_by words left read line.TooLarge h = inr h
+asked_by words left read line.NotYet h = inr h
+asked_by words left read (line.NotFound missing) h = inr h
+asked_by words left read line.OutOfMemory h = inr h
+asked_by words left read line.WriteFault h = inr h
+
+pub of_refusal : (words : Words) (left : Option (List ℕ)) (read : Type 0) (refusal : line.Refusal) → HasNoRunFor words left read refusal →
+    (name text : List ℕ) → entry_of words ≡ Some name → left ≡ Some text → Told name text (status_of refusal)
+of_refusal words left read refusal h name text asked told = elim (asked_by words left read refusal h) [
+  | inl none ↦ absurd (let e = none.0 in cc)
+  | inr some ↦ (
+      let same : some.0 ≡ name = (let e = some.1 in cc) in
+      by_refusal name text read refusal (subst (λ l. HasReadCause name l read refusal) told (subst (λ n. HasReadCause n left read refusal) same some.2)))
+]
+
+-- the status of a refusal before anything was written
+pub record IsRefusal (words : Words) (status : ℕ) : Type 0 where
+  pub words_only : status ≡ 2 → entry_of words ≡ None
+  pub words_first : entry_of words ≡ None → status ≡ 2
+  pub answer : is_answer status ≡ false
+  pub run : is_run status ≡ false
+  pub known : is_status status ≡ true
+  pub unwritten : status ≡ 5 → ⊥
+
+pub is_refusal : (words : Words) (left : Option (List ℕ)) (read : Type 0) (refusal : line.Refusal) → HasNoRunFor words left read refusal → IsRefusal words (status_of refusal)
+is_refusal words left read line.Words h =
+    record { words_only = λ _. h; words_first = λ _. refl; answer = refl; run = refl; known = refl; unwritten = λ e. omega arith }
+is_refusal words left read line.ReadFault h =
+    record { words_only = λ e. absurd (omega arith); words_first = λ none. absurd (let some = h.1 in cc); answer = refl; run = refl; known = refl; unwritten = λ e. omega arith }
+is_refusal words left read line.TooLarge h =
+    record { words_only = λ e. absurd (omega arith); words_first = λ none. absurd (let some = h.1 in cc); answer = refl; run = refl; known = refl; unwritten = λ e. omega arith }
+is_refusal words left read line.NotYet h =
+    record { words_only = λ e. absurd (omega arith); words_first = λ none. absurd (let some = h.1 in cc); answer = refl; run = refl; known = refl; unwritten = λ e. omega arith }
+is_refusal words left read (line.NotFound missing) h =
+    record { words_only = λ e. absurd (omega arith); words_first = λ none. absurd (let some = h.1 in cc); answer = refl; run = refl; known = refl; unwritten = λ e. omega arith }
+is_refusal words left read line.OutOfMemory h =
+    record { words_only = λ e. absurd (omega arith); words_first = λ none. absurd (let some = h.1 in cc); answer = refl; run = refl; known = refl; unwritten = λ e. omega arith }
+is_refusal words left read line.WriteFault h = absurd h.2
+
+-- its cause, as the public clause says it
+outside : (left : Option (List ℕ)) → OfRead left HasNoProgram → IfSome left IsOutside
+outside None h = tt
+outside (Some text) h = record { fits = h.0; unread = h.1 }
+
+lacks : (name : List ℕ) (left : Option (List ℕ)) → OfRead left (LacksName name) → IfSome left (LacksEntry name)
+lacks name None h = tt
+lacks name (Some text) h = record { fits = h.0; program = h.1.program; read = h.1.read.is; missing = h.1.missing }
+
+pub has_cause : (words : Words) (left : Option (List ℕ)) (read written : Type 0) (refusal : line.Refusal) → HasNoRunFor words left read refusal → HasCause words left read written refusal
+has_cause words left read written line.Words h = h
+has_cause words left read written line.ReadFault h = h.2
+has_cause words left read written line.TooLarge h = h.2
+has_cause words left read written line.NotYet h = outside left h.2
+has_cause words left read written (line.NotFound missing) h =
+    (h.1 ∙ ap (λ n. Some n) (sym h.2.0), subst (λ n. IfSome left (LacksEntry n)) (sym h.2.0) (lacks h.0 left h.2.1))
+has_cause words left read written line.OutOfMemory h = tt
+has_cause words left read written line.WriteFault h = absurd h.2
+
+-- ---- a run
+
+pub run_statuses : (endings : List Ending) → (run_status endings ≡ 0) ⊎ (run_status endings ≡ 8)
+run_statuses [] = inl refl
+run_statuses (Finished ∷ endings) = run_statuses endings
+run_statuses (Spent l ∷ endings) = inr refl
+
+module _ (name text : List ℕ) (run : Record) (fits : length text ≤ max_text) (r : RunsText name text run) where
+  accepts : Accepts name text r.program r.entry
+  accepts = record { fits = fits; read = r.read.is; named = r.named }
+
+  pub has_run : HasRun name text run
+  has_run = record { program = r.program; entry = r.entry; accepted = record { fits = fits; read = r.read.is; named = r.named }; runs = r.runs }
+
+  ends : Ends name text r.runs.ending
+  ends = record { program = r.program; entry = r.entry; accepted = record { fits = fits; read = r.read.is; named = r.named }; ended = r.runs.ended }
+
+  ended_as : (ending : Ending) → Ends name text ending → ending ≡ r.runs.ending
+  ended_as ending e =
+      let programs : e.program ≡ r.program = r.read.only e.program e.accepted.read in
+      let named : IsEntry r.program name e.entry = subst (λ p. IsEntry p name e.entry) programs e.accepted.named in
+      let entries : e.entry ≡ r.entry = entry_one r.program name e.entry r.entry named r.named in
+      let here : (worker r.program (setting_of e.entry)).ending ≡ Some ending = subst (λ p. (worker p (setting_of e.entry)).ending ≡ Some ending) programs e.ended in
+      let there : (worker r.program (setting_of r.entry)).ending ≡ Some ending = subst (λ n. (worker r.program (setting_of n)).ending ≡ Some ending) entries here in
+      let both : Some ending ≡ Some r.runs.ending = sym there ∙ r.runs.ended in
+      cc
+
+  not_refused : IsRefused name text → ⊥
+  not_refused (inl o) = o.unread r.program r.read.is
+  not_refused (inr l) =
+      let same = r.read.only l.program l.read in
+      l.missing r.entry (subst (λ p. Named p r.entry name) (sym same) r.named.named)
+
+  not_large : IsTooLarge text → ⊥
+  not_large large = omega (arith, fits, large)
+
+  status_is : run_status run.endings ≡ run_status (Finished ∷ r.runs.ending ∷ [])
+  status_is = ap run_status r.runs.endings
+
+  at_end : (ending : Ending) (status : ℕ) → r.runs.ending ≡ ending → status ≡ run_status (ending ∷ []) → Told name text status
+  at_end Finished status is zero = record {
+    too_large = apart 7 status _ (λ e. omega arith) not_large;
+    refused = apart 3 status _ (λ e. omega arith) not_refused;
+    finished = (λ _. subst (λ e. Ends name text e) is ends, λ _. inl zero);
+    stopped = apart_written 8 status _ (λ e. omega arith) (λ s. let other = ended_as (Spent s.0) s.1 in cc);
+  }
+  at_end (Spent l) status is eight = record {
+    too_large = apart 7 status _ (λ e. omega arith) not_large;
+    refused = apart 3 status _ (λ e. omega arith) not_refused;
+    finished = apart_written 0 status _ (λ e. omega arith) (λ s. let other = ended_as Finished s in cc);
+    stopped = (λ _. (l, subst (λ e. Ends name text e) is ends), λ _. inl eight);
+  }
+
+  unwritten : (status : ℕ) → status ≡ 5 → Told name text status
+  unwritten status five = record {
+    too_large = apart 7 status _ (λ e. omega arith) not_large;
+    refused = apart 3 status _ (λ e. omega arith) not_refused;
+    finished = (λ e. absurd (omega arith), λ _. inr (inl five));
+    stopped = (λ e. absurd (omega arith), λ _. inr (inl five));
+  }
+
+  pub by_run : (status : ℕ) → (status ≡ run_status run.endings) ⊎ (status ≡ 5) → Told name text status
+  by_run status (inl is) = at_end r.runs.ending status refl (is ∙ status_is)
+  by_run status (inr five) = unwritten status five
+
+pub of_run : (words : Words) (left : Option (List ℕ)) (run : Record) (status : ℕ) → RunsFor words left run → (status ≡ run_status run.endings) ⊎ (status ≡ 5) →
+    (name text : List ℕ) → entry_of words ≡ Some name → left ≡ Some text → Told name text status × HasRun name text run
+of_run words left run status r is name text asked told =
+    let same : r.name ≡ name = (let e = r.asked in cc) in
+    let here : (length text ≤ max_text) × RunsText r.name text run = subst (λ l. OfRead l (λ t. RunsText r.name t run)) told r.runs in
+    let runs : RunsText name text run = subst (λ n. RunsText n text run) same here.1 in
+    (by_run name text run here.0 runs status is, has_run name text run here.0 runs)
+
+-- what the status says by itself
+pub record IsRun (words : Words) (status answered : ℕ) : Type 0 where
+  pub words_only : status ≡ 2 → entry_of words ≡ None
+  pub words_first : entry_of words ≡ None → status ≡ 2
+  pub unread : status ≡ 4 → ⊥
+  pub run : is_run status ≡ true
+  pub known : is_status status ≡ true
+  pub answers : is_answer status ≡ true → status ≡ answered
+  pub fault : is_answer status ≡ false → status ≡ 5
+
+pub is_a_run : (words : Words) (left : Option (List ℕ)) (run : Record) (status : ℕ) → RunsFor words left run → (status ≡ run_status run.endings) ⊎ (status ≡ 5) → IsRun words status (run_status run.endings)
+is_a_run words left run status r (inl is) = elim (run_statuses run.endings) [
+  | inl zero ↦ (let e : status ≡ 0 = is ∙ zero in record {
+    words_only = λ two. absurd (omega arith);
+    words_first = λ none. absurd (let some = r.asked in cc);
+    unread = λ four. omega arith;
+    run = ap is_run e;
+    known = ap is_status e;
+    answers = λ _. is;
+    fault = λ no. absurd (let yes = ap is_answer e in cc);
+  })
+  | inr eight ↦ (let e : status ≡ 8 = is ∙ eight in record {
+    words_only = λ two. absurd (omega arith);
+    words_first = λ none. absurd (let some = r.asked in cc);
+    unread = λ four. omega arith;
+    run = ap is_run e;
+    known = ap is_status e;
+    answers = λ _. is;
+    fault = λ no. absurd (let yes = ap is_answer e in cc);
+  })
+]
+is_a_run words left run status r (inr five) = record {
+  words_only = λ two. absurd (omega arith);
+  words_first = λ none. absurd (let some = r.asked in cc);
+  unread = λ four. omega arith;
+  run = ap is_run five;
+  known = ap is_status five;
+  answers = λ yes. absurd (let no = ap is_answer five in cc);
+  fault = λ _. five;
+}
+
+-- ---- a text that was read whole
+
+of_read : (left : Option (List ℕ)) (text : List ℕ) (P : List ℕ → Type 0) → IfSome left (λ told. text ≡ told) → length text ≤ max_text → P text → OfRead left P
+of_read None text P is fits p = tt
+of_read (Some told) text P is fits p = (rw (sym is) fits, subst P is p)
+
+pub text_cause : (words : Words) (left : Option (List ℕ)) (read : Type 0) (name text : List ℕ) (refusal : line.Refusal) → entry_of words ≡ Some name →
+    IfSome left (λ told. text ≡ told) → length text ≤ max_text → HasTextCause name text refusal → HasNoRunFor words left read refusal
+text_cause words left read name text line.NotYet asked is fits h = (name, asked, of_read left text HasNoProgram is fits h)
+text_cause words left read name text (line.NotFound missing) asked is fits h = (name, asked, (h.0, of_read left text (LacksName name) is fits h.1))
+text_cause words left read name text line.OutOfMemory asked is fits h = (name, asked, tt)
+text_cause words left read name text line.Words asked is fits h = absurd h
+text_cause words left read name text line.ReadFault asked is fits h = absurd h
+text_cause words left read name text line.TooLarge asked is fits h = absurd h
+text_cause words left read name text line.WriteFault asked is fits h = absurd h
+
+pub text_run : (words : Words) (left : Option (List ℕ)) (name text : List ℕ) (run : Record) → entry_of words ≡ Some name →
+    IfSome left (λ told. text ≡ told) → length text ≤ max_text → RunsText name text run → RunsFor words left run
+text_run words left name text run asked is fits h = record { name = name; asked = asked; runs = of_read left text (λ t. RunsText name t run) is fits h }
+
+pub program_cause : (name text : List ℕ) (e : ProgramError) → (e ≡ error.NotYet → HasNoProgram text) → HasTextCause name text (seen (of_program e))
+program_cause name text error.Memory h = tt
+program_cause name text error.NotYet h = h refl
+
+pub not_five : (endings : List Ending) → run_status endings ≡ 5 → ⊥
+not_five endings five = elim (run_statuses endings) [ inl zero ↦ omega arith | inr eight ↦ omega arith ]

@@ -1,0 +1,12 @@
+use Rattle.std.proofs.lemmas.Option.{slice_get_within}
+use Rattle.std.proofs.lemmas.Result.{err_from_is_err_and}
+use Rattle.effsan_top.proofs.Outcomes.{program_cause}
+use Rattle.effsan_top.proofs.answer.answer_text.Goals as goal
+
+pub returns-in_err-program-clause-refused : goal.returns-in_err-program-clause-refused
+returns-in_err-program-clause-refused c =
+    let p = err_from_is_err_and c.from_residual.result c.from_residual.ensures.1 in
+    rw (p.1, p.2) (program_cause c.args.name.now c.args.text.now _ c.in_err-program.ensures.refused)
+
+pub run-requires : goal.run-requires
+run-requires c = slice_get_within _ _ c.in-Ok.ensures.named.function c.in-Ok.ensures.named.found

@@ -1,0 +1,61 @@
+use Rattle.std.proofs.Common.{sym, refl}
+use Rattle.std.specs.Prelude.{map, string_bytes}
+use Rattle.effsan_top.specs.Streams.{Rose}
+use Rattle.effsan_top.specs.Lines.{WriteFault}
+use Rattle.effsan_top.specs.Refusals.{seen}
+use Rattle.effsan_top.proofs.Outcomes.{of_run, of_refusal, is_a_run, is_refusal, has_cause}
+use Rattle.effsan_top.proofs.still.effsan_still.Goals as goal
+
+pub returns-in-Ok-clause-words : goal.returns-in-Ok-clause-words
+returns-in-Ok-clause-words g c =
+    let r = is_a_run _ _ c.in-Ok.answer.run c.written.result.status c.in-Ok.ensures.run c.written.ensures.status in
+    (r.words_only, r.words_first)
+
+pub returns-in-Ok-clause-read_fault : goal.returns-in-Ok-clause-read_fault
+returns-in-Ok-clause-read_fault g c four =
+    absurd ((is_a_run _ _ c.in-Ok.answer.run c.written.result.status c.in-Ok.ensures.run c.written.ensures.status).unread four)
+
+pub returns-in-Ok-clause-refused : goal.returns-in-Ok-clause-refused
+returns-in-Ok-clause-refused g c name text asked told =
+    (of_run _ _ c.in-Ok.answer.run c.written.result.status c.in-Ok.ensures.run c.written.ensures.status name text asked told).0.refused
+
+pub returns-in-Ok-clause-finished : goal.returns-in-Ok-clause-finished
+returns-in-Ok-clause-finished g c name text asked told =
+    (of_run _ _ c.in-Ok.answer.run c.written.result.status c.in-Ok.ensures.run c.written.ensures.status name text asked told).0.finished
+
+pub returns-in-Ok-clause-stopped : goal.returns-in-Ok-clause-stopped
+returns-in-Ok-clause-stopped g c name text asked told =
+    (of_run _ _ c.in-Ok.answer.run c.written.result.status c.in-Ok.ensures.run c.written.ensures.status name text asked told).0.stopped
+
+pub returns-in-Ok-clause-status : goal.returns-in-Ok-clause-status
+returns-in-Ok-clause-status g c =
+    rw (is_a_run _ _ c.in-Ok.answer.run c.written.result.status c.in-Ok.ensures.run c.written.ensures.status).known refl
+
+pub returns-in-Ok-clause-no_run : goal.returns-in-Ok-clause-no_run
+returns-in-Ok-clause-no_run g c none =
+    absurd (let yes = (is_a_run _ _ c.in-Ok.answer.run c.written.result.status c.in-Ok.ensures.run c.written.ensures.status).run in cc (yes, none))
+
+pub returns-in-Ok-clause-out_none : goal.returns-in-Ok-clause-out_none
+returns-in-Ok-clause-out_none g c none =
+    absurd (let yes = (is_a_run _ _ c.in-Ok.answer.run c.written.result.status c.in-Ok.ensures.run c.written.ensures.status).run in cc (yes, none))
+
+pub returns-in-Ok-clause-err : goal.returns-in-Ok-clause-err
+returns-in-Ok-clause-err g c other =
+    let five = (is_a_run _ _ c.in-Ok.answer.run c.written.result.status c.in-Ok.ensures.run c.written.ensures.status).fault other in
+    (WriteFault, sym five, c.written.ensures.cause five, c.written.ensures.told five)
+
+pub returns-in-Err-clause-refused : goal.returns-in-Err-clause-refused
+returns-in-Err-clause-refused g c name text asked told =
+    rw c.refused.ensures.status (of_refusal (map string_bytes c.args.words.now) (g.S.Source.left c.args.src.now) (Rose (g.S.Source.faults c.args.src.now) (g.S.Source.faults c.answer_words.new.src)) (seen c.in-Err.refusal) c.in-Err.ensures.refused name text asked told).refused
+
+pub returns-in-Err-clause-finished : goal.returns-in-Err-clause-finished
+returns-in-Err-clause-finished g c name text asked told =
+    rw c.refused.ensures.status (of_refusal (map string_bytes c.args.words.now) (g.S.Source.left c.args.src.now) (Rose (g.S.Source.faults c.args.src.now) (g.S.Source.faults c.answer_words.new.src)) (seen c.in-Err.refusal) c.in-Err.ensures.refused name text asked told).finished
+
+pub returns-in-Err-clause-stopped : goal.returns-in-Err-clause-stopped
+returns-in-Err-clause-stopped g c name text asked told =
+    rw c.refused.ensures.status (of_refusal (map string_bytes c.args.words.now) (g.S.Source.left c.args.src.now) (Rose (g.S.Source.faults c.args.src.now) (g.S.Source.faults c.answer_words.new.src)) (seen c.in-Err.refusal) c.in-Err.ensures.refused name text asked told).stopped
+
+pub returns-in-Err-clause-err : goal.returns-in-Err-clause-err
+returns-in-Err-clause-err g c _ =
+    (seen c.in-Err.refusal, sym c.refused.ensures.status, has_cause (map string_bytes c.args.words.now) (g.S.Source.left c.args.src.now) (Rose (g.S.Source.faults c.args.src.now) (g.S.Source.faults c.answer_words.new.src)) (Rose (g.O.Sink.faults c.args.out.now) (g.O.Sink.faults c.args.out.now)) (seen c.in-Err.refusal) c.in-Err.ensures.refused, c.refused.ensures.err)

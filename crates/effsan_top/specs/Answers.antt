@@ -1,0 +1,61 @@
+-- What the code of the top call keeps between its steps.
+use Rattle.std.specs.Prelude.{◌≡◌, ℕ, ◌≤◌, ◌⊎◌, List, [], ◌∷◌, length, Option, Some, None, IfSome}
+use Rattle.plain_meaning.specs.declared.record.Record.{Record}
+use Rattle.plain_meaning.specs.declared.tree.Program.{Program}
+use Rattle.plain_meaning.specs.Names.{IsEntry, HasNone}
+use Rattle.plain_meaning.specs.Run.{Run}
+use Rattle.effsan_top.specs.Streams.{max_text}
+use Rattle.effsan_top.specs.Words.{Words, entry_of}
+use Rattle.effsan_top.specs.Programs.{IsProgram, HasNoProgram}
+use Rattle.effsan_top.specs.Lines as line
+use Rattle.effsan_top.specs.Causes.{IsTooLarge, Accepts, setting_of}
+
+-- The program of a text, and no other is.
+pub record IsOnlyProgram (text : List ℕ) (program : Program) : Type 0 where
+  pub is : IsProgram text program
+  pub only : (other : Program) → IsProgram text other → other ≡ program
+
+-- The record is that of the one program of the text, run from the function of this name.
+pub record RunsText (name text : List ℕ) (run : Record) : Type 0 where
+  pub program : Program
+  pub read : IsOnlyProgram text program
+  pub entry : ℕ
+  pub named : IsEntry program name entry
+  pub runs : Run program (setting_of entry) run
+
+-- No function of the one program of the text has this name.
+pub record LacksName (name text : List ℕ) : Type 0 where
+  pub program : Program
+  pub read : IsOnlyProgram text program
+  pub missing : HasNone program name
+
+-- Why a text that was read whole gives no run.
+abbrev pub HasTextCause : List ℕ → List ℕ → line.Refusal → Type 0
+HasTextCause name text line.NotYet = HasNoProgram text
+HasTextCause name text (line.NotFound missing) = (missing ≡ name) × LacksName name text
+HasTextCause name text line.OutOfMemory = Unit {0}
+HasTextCause name text _ = ⊥
+
+-- a text that was read whole, where it was told
+abbrev pub OfRead : Option (List ℕ) → (List ℕ → Type 0) → Type 0
+OfRead left P = IfSome left (λ text. (length text ≤ max_text) × P text)
+
+-- Why a source gives no run. `read` says that the count of the source rose.
+abbrev pub HasReadCause : List ℕ → Option (List ℕ) → Type 0 → line.Refusal → Type 0
+HasReadCause name left read line.ReadFault = read
+HasReadCause name left read line.TooLarge = IfSome left IsTooLarge
+HasReadCause name left read line.NotYet = OfRead left HasNoProgram
+HasReadCause name left read (line.NotFound missing) = (missing ≡ name) × OfRead left (LacksName name)
+HasReadCause name left read line.OutOfMemory = Unit {0}
+HasReadCause name left read _ = ⊥
+
+-- Why words and a source give no run.
+abbrev pub HasNoRunFor : Words → Option (List ℕ) → Type 0 → line.Refusal → Type 0
+HasNoRunFor words left read line.Words = entry_of words ≡ None
+HasNoRunFor words left read refusal = (name : List ℕ) × (entry_of words ≡ Some name) × HasReadCause name left read refusal
+
+-- The words name a function, and the record is that of its run, where the text was told.
+pub record RunsFor (words : Words) (left : Option (List ℕ)) (run : Record) : Type 0 where
+  pub name : List ℕ
+  pub asked : entry_of words ≡ Some name
+  pub runs : OfRead left (λ text. RunsText name text run)

@@ -1,0 +1,77 @@
+//! The answer to words and a source, before anything is written.
+
+ghost use Rattle.std.specs.Prelude.{◌≡◌, ◌≤◌, length, map, IfOk, IfErr, string_bytes};
+ghost use Rattle.effsan_top.specs.Streams.{Rose};
+ghost use Rattle.effsan_top.specs.Lines as spec;
+ghost use Rattle.effsan_top.specs.Causes.{run_status};
+ghost use Rattle.effsan_top.specs.Answers.{RunsText, RunsFor, HasTextCause, HasNoRunFor};
+ghost use Rattle.effsan_top.specs.Refusals.{seen};
+
+use crate::lines::printed;
+use crate::program::program_of;
+use crate::refusal::Refusal;
+use crate::source::Source;
+use crate::transfer::read_all;
+use crate::words::entry;
+use plain_meaning::{Ending, Record, Setting, Text, find_entry};
+use std::alloc::Global;
+use tree_walk::run;
+
+/// How many turns a worker may take.
+const MAX_TURNS: u32 = 1_000_000;
+
+/// A run, and what is to be printed of it.
+#[derive(Debug, Drop)]
+pub struct Answer {
+    pub run: Record,
+    pub text: Text,
+}
+
+/// Runs the function of this name.
+fn answer_text<'a>(alloc: Global, name: &'a [u8], text: &[u8]) -> Result<Answer, Refusal<'a>>
+    requires { length text.now ≤ 1048576 }
+    ensures run { IfOk result (λ answer. RunsText name.now text.now answer.run) }
+    ensures text { IfOk result (λ answer. answer.text ≡ spec.printed answer.run) }
+    ensures refused { IfErr result (λ refusal. HasTextCause name.now text.now (seen refusal)) }
+{
+    let program = program_of(alloc, text)?;
+    let Ok(entry) = find_entry(&program, name) else {
+        return Err(Refusal::NotFound(name));
+    };
+    let setting = Setting {
+        entry,
+        turns: MAX_TURNS,
+    };
+    let run = run(alloc, &program, &setting)?;
+    let text = printed(alloc, &run)?;
+    Ok(Answer { run, text })
+}
+
+/// Reads the source and runs what the words ask for.
+pub fn answer_words<'a, S: Source>(
+    alloc: Global,
+    words: &'a [String],
+    src: &mut S,
+) -> Result<Answer, Refusal<'a>>
+    ensures run { IfOk result (λ answer. RunsFor (map string_bytes words.now) (S.left src.old) answer.run) }
+    ensures text { IfOk result (λ answer. answer.text ≡ spec.printed answer.run) }
+    ensures refused { IfErr result (λ refusal. HasNoRunFor (map string_bytes words.now) (S.left src.old) (Rose (S.faults src.old) (S.faults src.new)) (seen refusal)) }
+{
+    let Some(name) = entry(words) else {
+        return Err(Refusal::Words);
+    };
+    let text = read_all(alloc, src)?;
+    answer_text(alloc, name, text.as_slice())
+}
+
+/// The status of a run: 0 where each worker finished, else 8.
+pub fn status(run: &Record) -> u8
+    ensures { result ≡ run_status run.now.endings }
+{
+    for ending in run.endings.as_slice() {
+        if let Ending::Spent(_) = ending {
+            return 8;
+        }
+    }
+    0
+}

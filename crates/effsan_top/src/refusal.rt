@@ -1,0 +1,105 @@
+//! Why there is no answer, and the line that says so.
+
+ghost use Rattle.std.specs.Prelude.{◌≡◌, ◌++◌, codes, OnOk, OnErr};
+ghost use Rattle.effsan_top.specs.declared.refusal.Refusal.TheVariants.{OutOfMemory};
+ghost use Rattle.effsan_top.specs.Streams.{Rose, Appends, AppendsSome};
+ghost use Rattle.effsan_top.specs.Lines.{status_of, line_of};
+
+use crate::program::ProgramError;
+use crate::sink::Sink;
+use crate::source::Failed;
+use crate::transfer::{ReadError, write_all};
+use std::alloc::AllocError;
+
+/// Why there is no answer, or only a part of it. A name that no function has is the one that the words give.
+#[derive(Clone, Copy, Debug)]
+pub enum Refusal<'a> {
+    Words,
+    ReadFault,
+    TooLarge,
+    NotYet,
+    NotFound(&'a [u8]),
+    OutOfMemory,
+    WriteFault,
+}
+
+impl From<AllocError> for Refusal<'_> {
+    ghost from_gives = { λ _ r. r ≡ OutOfMemory };
+
+    fn from(_e: AllocError) -> Self {
+        Refusal::OutOfMemory
+    }
+}
+
+impl From<ProgramError> for Refusal<'_> {
+    ghost use Rattle.effsan_top.specs.Errors.{of_program};
+
+    ghost from_gives = { λ e r. r ≡ of_program e };
+
+    fn from(error: ProgramError) -> Self {
+        match error {
+            ProgramError::Memory => Refusal::OutOfMemory,
+            ProgramError::NotYet => Refusal::NotYet,
+        }
+    }
+}
+
+impl From<ReadError> for Refusal<'_> {
+    ghost use Rattle.effsan_top.specs.Errors.{of_read};
+
+    ghost from_gives = { λ e r. r ≡ of_read e };
+
+    fn from(error: ReadError) -> Self {
+        match error {
+            ReadError::Memory(_) => Refusal::OutOfMemory,
+            ReadError::Fault => Refusal::ReadFault,
+            ReadError::TooLarge => Refusal::TooLarge,
+        }
+    }
+}
+
+impl Refusal<'_> {
+    ghost use Rattle.effsan_top.specs.Refusals.{seen};
+
+    /// The exit status.
+    pub fn status(self) -> u8
+        ensures { result ≡ status_of (seen self.entry) }
+    {
+        match self {
+            Refusal::Words => 2,
+            Refusal::NotYet | Refusal::NotFound(_) => 3,
+            Refusal::ReadFault => 4,
+            Refusal::WriteFault => 5,
+            Refusal::OutOfMemory => 6,
+            Refusal::TooLarge => 7,
+        }
+    }
+
+    /// Writes the line that says why, without taking memory.
+    pub fn write<E: Sink>(self, err: &mut E) -> Result<(), Failed>
+        ensures ok { OnOk result (Appends (line_of (seen self.entry)) (E.taken err.old) (E.taken err.new)) }
+        ensures failed { OnErr result (AppendsSome (line_of (seen self.entry)) (E.taken err.old) (E.taken err.new)) }
+        ensures cause { OnErr result (Rose (E.faults err.old) (E.faults err.new)) }
+    {
+        match self {
+            Refusal::Words => write_all(err, b"effsan: words: NotYet\n"),
+            Refusal::ReadFault => write_all(err, b"effsan: read fault\n"),
+            Refusal::TooLarge => write_all(err, b"effsan: source too large\n"),
+            Refusal::NotYet => write_all(err, b"effsan: NotYet\n"),
+            Refusal::NotFound(name) => write_missing(err, name),
+            Refusal::OutOfMemory => write_all(err, b"effsan: out of memory\n"),
+            Refusal::WriteFault => write_all(err, b"effsan: write fault\n"),
+        }
+    }
+}
+
+fn write_missing<E: Sink>(err: &mut E, name: &[u8]) -> Result<(), Failed>
+    ensures ok { OnOk result (Appends (codes "effsan: entry NotFound " ++ name.now ++ codes "\n") (E.taken err.old) (E.taken err.new)) }
+    ensures failed { OnErr result (AppendsSome (codes "effsan: entry NotFound " ++ name.now ++ codes "\n") (E.taken err.old) (E.taken err.new)) }
+    ensures cause { OnErr result (Rose (E.faults err.old) (E.faults err.new)) }
+{
+    write_all(err, b"effsan: entry NotFound ")?;
+    write_all(err, name)?;
+    write_all(err, b"\n")?;
+    Ok(())
+}

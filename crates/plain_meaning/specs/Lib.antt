@@ -1,0 +1,7 @@
+pub mod Typed
+pub mod Tree
+pub mod Acts
+pub mod Values
+pub mod Meaning
+pub mod Run
+pub mod Names

@@ -1,0 +1,30 @@
+//! The operators on values.
+
+ghost use Rattle.std.specs.Prelude.{◌≡◌};
+ghost use Rattle.std.specs.Int.{w32};
+ghost use Rattle.plain_meaning.specs.Values as values;
+
+use plain_meaning::Operator;
+
+/// The value of `a OPERATOR b` (C11 6.5.6, 6.5.8); a sum wraps.
+pub(crate) fn operate(operator: Operator, a: i32, b: i32) -> i32
+    ensures { result ≡ values.operate w32 operator a b }
+{
+    match operator {
+        Operator::Add => a.wrapping_add(b),
+        Operator::LessEqual => truth(a <= b),
+    }
+}
+
+fn truth(holds: bool) -> i32
+    ensures { result ≡ values.truth holds }
+{
+    if holds { 1 } else { 0 }
+}
+
+/// Whether a loop goes on at this value of its test (C11 6.8.5).
+pub(crate) fn is_true(value: i32) -> bool
+    ensures { result ≡ values.is_true value }
+{
+    value != 0
+}
