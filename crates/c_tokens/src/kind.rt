@@ -1,7 +1,8 @@
 //! The kinds of tokens, after C11 6.4.
 
-ghost use Rattle.std.specs.Prelude.{◌≡◌};
+ghost use Rattle.std.specs.Prelude.{◌≡◌, ◌↔◌, true};
 ghost use Rattle.c_tokens.specs.Same as spec;
+ghost use Rattle.c_tokens.specs.declared.kind.Kind.{Kind as Sort};
 
 /// The keywords of C11 6.4.1.
 #[derive(Clone, Copy, Debug, PartialEq, Eq)]
@@ -137,3 +138,8 @@ pub fn same_kind(a: Kind, b: Kind) -> bool
         _ => false,
     }
 }
+
+/// The test tells equal kinds, and no others.
+pub fn law_kinds()
+    ensures { (a b : Sort) → (spec.same_kind a b ≡ true) ↔ (a ≡ b) }
+{}

@@ -4,5 +4,5 @@
 mod kind;
 mod token;
 
-pub use kind::{Keyword, Kind, Mark, NumType, same_kind};
+pub use kind::{Keyword, Kind, Mark, NumType, law_kinds, same_kind};
 pub use token::Token;

@@ -55,8 +55,15 @@ fn a_write_that_fails_is_a_write_fault(rt: HostRuntime) -> Result<(), Fail> {
         let whole = taken.len() == 6;
         assert_eq!(rt; done.status, if whole { 0 } else { 5 });
         // the record is kept
-        assert_eq!(rt; done.run.endings.len(), 2);
+        assert_eq!(rt;
+            done.run.endings.as_slice(),
+            [Ending::Finished, Ending::Finished].as_slice()
+        );
         assert_eq!(rt; done.run.texts.len(), 3);
+        assert_eq!(rt;
+            done.run.texts.as_slice()[1].bytes(),
+            b"1\n2\n3\n".as_slice()
+        );
         let line = if whole { "" } else { "effsan: write fault\n" };
         assert_eq!(rt; err.taken(), line.as_bytes());
     }

@@ -1,6 +1,7 @@
 //! What programs print.
 
 use crate::tools::play;
+use effsan_top::Ending;
 use std::test::Fail;
 
 #[test]
@@ -58,14 +59,17 @@ fn programs_print_what_they_mean(rt: HostRuntime) -> Result<(), Fail> {
 
 #[test]
 fn a_loop_without_end_is_spent(rt: HostRuntime) -> Result<(), Fail> {
-    let left = play(rt.alloc(), b"void f(void) { while (1 <= 3) { } }")?;
+    // the counting program without its step: a million turns, each of them a line
+    let left = play(
+        rt.alloc(),
+        b"void f(void) { int i = 1; while (1 <= 3) { printf(\"%d\\n\", i); } }",
+    )?;
     assert_eq!(rt; left.status, 8);
-    assert_eq!(rt;
-        left.out.as_slice(),
-        b"worker 1: line 1: Spent\n".as_slice()
-    );
+    assert_eq!(rt; left.out.len(), 2_000_024);
+    assert!(rt; left.out.starts_with(b"1\n1\n"));
+    assert!(rt; left.out.ends_with(b"1\n1\nworker 1: line 1: Spent\n"));
     assert_eq!(rt; left.err.len(), 0);
-    // the line is that of the loop, and what was printed before stands before it
+    // the line is that of the loop
     let left = play(
         rt.alloc(),
         b"void f(void) {\n  printf(\"%d\\n\", 5);\n  int i = 0;\n  while (0 <= 1)\n    i =\n i + 1; }",
@@ -75,5 +79,33 @@ fn a_loop_without_end_is_spent(rt: HostRuntime) -> Result<(), Fail> {
         left.out.as_slice(),
         b"5\nworker 1: line 4: Spent\n".as_slice()
     );
+    let endings = [Ending::Finished, Ending::Spent(4)];
+    assert_eq!(rt; left.run.endings.as_slice(), endings.as_slice());
+    assert_eq!(rt; left.run.texts.len(), 3);
+    assert_eq!(rt; left.run.texts.as_slice()[0].bytes().len(), 0);
+    assert_eq!(rt; left.run.texts.as_slice()[1].bytes(), b"5\n".as_slice());
+    assert_eq!(rt; left.run.texts.as_slice()[2].bytes().len(), 0);
+    Ok(())
+}
+
+#[test]
+fn a_million_turns_are_enough_for_a_million_tests(rt: HostRuntime) -> Result<(), Fail> {
+    let cases: [(&str, u8); 2] = [
+        (
+            "void f(void) { int i = 0; while (i <= 999998) i = i + 1; }",
+            0,
+        ),
+        (
+            "void f(void) { int i = 0; while (i <= 999999) i = i + 1; }",
+            8,
+        ),
+    ];
+    for (source, status) in cases {
+        assert_eq!(rt;
+            play(rt.alloc(), source.as_bytes())?.status,
+            status,
+            "{source}"
+        );
+    }
     Ok(())
 }

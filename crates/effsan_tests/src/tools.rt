@@ -25,7 +25,7 @@ pub fn words_of(alloc: Global, words: &[&str]) -> Result<Vec<String>, AllocError
 pub fn call(alloc: Global, words: &[&str], source: &[u8]) -> Result<Left, AllocError> {
     let words = words_of(alloc, words)?;
     let mut src = MemSource::new(source, 4096, &[]);
-    let mut out = MemSink::new(alloc, 1 << 20, 1 << 16, &[], &[])?;
+    let mut out = MemSink::new(alloc, 1 << 22, 1 << 16, &[], &[])?;
     let mut err = MemSink::new(alloc, 4096, 4096, &[], &[])?;
     let done = effsan_still(alloc, words.as_slice(), &mut src, &mut out, &mut err);
     Ok(Left {

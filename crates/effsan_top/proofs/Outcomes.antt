@@ -13,7 +13,7 @@ use Rattle.effsan_top.specs.Words.{Words, entry_of}
 use Rattle.effsan_top.specs.Programs.{IsProgram, HasNoProgram}
 use Rattle.effsan_top.specs.Lines as line
 use Rattle.effsan_top.specs.Lines.{status_of}
-use Rattle.effsan_top.specs.Causes.{IsTooLarge, Accepts, IsOutside, LacksEntry, IsRefused, Ends, Finishes, Stops, HasRun, Exactly, ExactlyWritten, OfText, HasCause, is_answer, is_run, is_status, run_status, setting_of}
+use Rattle.effsan_top.specs.Causes.{IsTooLarge, Accepts, IsOutside, LacksEntry, IsRefused, Ends, Finishes, Stops, HasRun, Exactly, ExactlyWritten, OfText, HasCause, AnswersAccepted, IsAnswered, is_answer, is_run, is_status, run_status, setting_of}
 use Rattle.effsan_top.specs.Answers.{IsOnlyProgram, RunsText, LacksName, HasTextCause, OfRead, HasReadCause, HasNoRunFor, RunsFor}
 use Rattle.effsan_top.specs.Refusals.{seen}
 use Rattle.effsan_top.specs.Errors.{of_program}
@@ -26,6 +26,7 @@ pub record Told (name text : List ℕ) (status : ℕ) : Type 0 where
   pub refused : Exactly 3 status (IsRefused name text)
   pub finished : ExactlyWritten 0 status (Finishes name text)
   pub stopped : ExactlyWritten 8 status (Stops name text)
+  pub accepted : AnswersAccepted status name text
 
 -- neither the status nor its cause is there
 apart : (expected status : ℕ) (C : Type 0) → (status ≡ expected → ⊥) → (C → ⊥) → Exactly expected status C
@@ -41,12 +42,14 @@ in_place name text status (inl is) = record {
   refused = (λ e. absurd (omega arith), λ _. inr (inl is));
   finished = (λ e. absurd (omega arith), λ _. inr (inr (inl is)));
   stopped = (λ e. absurd (omega arith), λ _. inr (inr (inl is)));
+  accepted = λ program entry a. inr (inr (inr (inl is)));
 }
 in_place name text status (inr is) = record {
   too_large = (λ e. absurd (omega arith), λ _. inr (inr is));
   refused = (λ e. absurd (omega arith), λ _. inr (inr is));
   finished = (λ e. absurd (omega arith), λ _. inr (inr (inr is)));
   stopped = (λ e. absurd (omega arith), λ _. inr (inr (inr is)));
+  accepted = λ program entry a. inr (inr (inr (inr is)));
 }
 
 entry_one : (program : Program) (name : List ℕ) (a b : ℕ) → IsEntry program name a → IsEntry program name b → a ≡ b
@@ -66,6 +69,11 @@ no_end_lacking name text ending l e =
     let same = l.read.only e.program e.accepted.read in
     l.missing e.entry (subst (λ p. Named p e.entry name) same e.accepted.named.named)
 
+lacking : (name text : List ℕ) (program : Program) (entry : ℕ) → LacksName name text → Accepts name text program entry → ⊥
+lacking name text program entry l a =
+    let same = l.read.only program a.read in
+    l.missing entry (subst (λ p. Named p entry name) same a.named.named)
+
 -- ---- a refusal
 
 by_refusal : (name text : List ℕ) (read : Type 0) (refusal : line.Refusal) → HasReadCause name (Some text) read refusal → Told name text (status_of refusal)
@@ -76,18 +84,21 @@ by_refusal name text read line.TooLarge h = record {
   refused = apart 3 7 _ (λ e. omega arith) (λ r. elim r [ inl o ↦ (let fits = o.fits in omega arith) | inr l ↦ (let fits = l.fits in omega arith) ]);
   finished = apart_written 0 7 _ (λ e. omega arith) (λ r. let fits = r.accepted.fits in omega arith);
   stopped = apart_written 8 7 _ (λ e. omega arith) (λ r. let fits = r.1.accepted.fits in omega arith);
+  accepted = λ program entry a. absurd (let fits = a.fits in omega arith);
 }
 by_refusal name text read line.NotYet h = record {
   too_large = apart 7 3 _ (λ e. omega arith) (λ large. omega (arith, h.0, large));
   refused = (λ _. inl (record { fits = h.0; unread = h.1 }), λ _. inl refl);
   finished = apart_written 0 3 _ (λ e. omega arith) (λ r. no_end name text Finished h.1 r);
   stopped = apart_written 8 3 _ (λ e. omega arith) (λ r. no_end name text (Spent r.0) h.1 r.1);
+  accepted = λ program entry a. absurd (h.1 program a.read);
 }
 by_refusal name text read (line.NotFound missing) h = record {
   too_large = apart 7 3 _ (λ e. omega arith) (λ large. omega (arith, h.1.0, large));
   refused = (λ _. inr (record { fits = h.1.0; program = h.1.1.program; read = h.1.1.read.is; missing = h.1.1.missing }), λ _. inl refl);
   finished = apart_written 0 3 _ (λ e. omega arith) (λ r. no_end_lacking name text Finished h.1.1 r);
   stopped = apart_written 8 3 _ (λ e. omega arith) (λ r. no_end_lacking name text (Spent r.0) h.1.1 r.1);
+  accepted = λ program entry a. absurd (lacking name text program entry h.1.1 a);
 }
 by_refusal name text read line.OutOfMemory h = in_place name text 6 (inr refl)
 by_refusal name text read line.WriteFault h = absurd h
@@ -200,12 +211,14 @@ module _ (name text : List ℕ) (run : Record) (fits : length text ≤ max_text)
     refused = apart 3 status _ (λ e. omega arith) not_refused;
     finished = (λ _. subst (λ e. Ends name text e) is ends, λ _. inl zero);
     stopped = apart_written 8 status _ (λ e. omega arith) (λ s. let other = ended_as (Spent s.0) s.1 in cc);
+    accepted = λ program entry a. inl zero;
   }
   at_end (Spent l) status is eight = record {
     too_large = apart 7 status _ (λ e. omega arith) not_large;
     refused = apart 3 status _ (λ e. omega arith) not_refused;
     finished = apart_written 0 status _ (λ e. omega arith) (λ s. let other = ended_as Finished s in cc);
     stopped = (λ _. (l, subst (λ e. Ends name text e) is ends), λ _. inl eight);
+    accepted = λ program entry a. inr (inl eight);
   }
 
   unwritten : (status : ℕ) → status ≡ 5 → Told name text status
@@ -214,6 +227,7 @@ module _ (name text : List ℕ) (run : Record) (fits : length text ≤ max_text)
     refused = apart 3 status _ (λ e. omega arith) not_refused;
     finished = (λ e. absurd (omega arith), λ _. inr (inl five));
     stopped = (λ e. absurd (omega arith), λ _. inr (inl five));
+    accepted = λ program entry a. inr (inr (inl five));
   }
 
   pub by_run : (status : ℕ) → (status ≡ run_status run.endings) ⊎ (status ≡ 5) → Told name text status

@@ -85,6 +85,14 @@ abbrev pub ExactlyWritten : ℕ → ℕ → Type 0 → Type 0
 ExactlyWritten expected status cause =
     (status ≡ expected → cause) × (cause → (status ≡ expected) ⊎ ((status ≡ 5) ⊎ ((status ≡ 4) ⊎ (status ≡ 6))))
 
+-- The status of a run: 0 or 8, but that a read fault, want of memory or a write fault may come in its place.
+abbrev pub IsAnswered : ℕ → Type 0
+IsAnswered status = (status ≡ 0) ⊎ ((status ≡ 8) ⊎ ((status ≡ 5) ⊎ ((status ≡ 4) ⊎ (status ≡ 6))))
+
+-- a text that is accepted has an answer
+abbrev pub AnswersAccepted : ℕ → List ℕ → List ℕ → Type 0
+AnswersAccepted status name text = (program : Program) (entry : ℕ) → Accepts name text program entry → IsAnswered status
+
 -- what is said of the name of an accepted command, and of the text, where the source tells it
 abbrev pub OfText : Words → Option (List ℕ) → (List ℕ → List ℕ → Type 0) → Type 0
 OfText words left P = (name text : List ℕ) → entry_of words ≡ Some name → left ≡ Some text → P name text

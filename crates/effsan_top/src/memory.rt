@@ -236,6 +236,8 @@ impl Sink for MemSink {
             (⟦<MemSink as Limited>⟧.size self.old - length taken))) }
         ensures calm { IfOk result (λ n.
             0 < n → ⟦<MemSink as Sink>⟧.faults self.new ≡ ⟦<MemSink as Sink>⟧.faults self.old) }
+        ensures calm_empty { length buf.now ≡ 0 → OnOk result
+            (⟦<MemSink as Sink>⟧.faults self.new ≡ ⟦<MemSink as Sink>⟧.faults self.old) }
         ensures same_piece { ⟦<MemSink as Scripted>⟧.piece self.new ≡ ⟦<MemSink as Scripted>⟧.piece self.old }
         ensures same_fail { ⟦<MemSink as Scripted>⟧.fail self.new ≡ ⟦<MemSink as Scripted>⟧.fail self.old }
         ensures same_size { ⟦<MemSink as Limited>⟧.size self.new ≡ ⟦<MemSink as Limited>⟧.size self.old }

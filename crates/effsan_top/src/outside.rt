@@ -99,6 +99,7 @@ impl<T: Write> Sink for OutSink<T> {
         ensures counted_none { IfOk result (λ n. n ≡ 0 → 0 < length buf.now
             → ⟦<OutSink<T> as Sink>⟧.faults self.new ≡ next_count (⟦<OutSink<T> as Sink>⟧.faults self.old)) }
         ensures calm { IfOk result (λ n. 0 < n → ⟦<OutSink<T> as Sink>⟧.faults self.new ≡ ⟦<OutSink<T> as Sink>⟧.faults self.old) }
+        ensures calm_empty { length buf.now ≡ 0 → OnOk result (⟦<OutSink<T> as Sink>⟧.faults self.new ≡ ⟦<OutSink<T> as Sink>⟧.faults self.old) }
     {
         match self.writer.write(buf) {
             Ok(count) => {

@@ -5,7 +5,7 @@ ghost use Rattle.effsan_top.specs.Streams.{Rose, Appends, AppendsSome, Writes};
 ghost use Rattle.effsan_top.specs.Words.{entry_of};
 ghost use Rattle.effsan_top.specs.Lines as spec;
 ghost use Rattle.effsan_top.specs.Lines.{Refusal as Cause, status_of, line_of};
-ghost use Rattle.effsan_top.specs.Causes.{OfText, Exactly, ExactlyWritten, IsTooLarge, IsRefused, Finishes, Stops, HasRun, HasCause, IsEmpty, is_answer, is_run, is_status, run_status};
+ghost use Rattle.effsan_top.specs.Causes.{OfText, Exactly, ExactlyWritten, IsTooLarge, IsRefused, Finishes, Stops, HasRun, HasCause, IsEmpty, AnswersAccepted, is_answer, is_run, is_status, run_status};
 ghost use Rattle.effsan_top.specs.Refusals.{seen};
 
 use crate::answer::{Answer, answer_words, status};
@@ -86,6 +86,8 @@ pub fn effsan_still<S: Source, O: Sink, E: Sink>(
     ensures refused { OfText (map string_bytes words.now) (S.left src.old) (λ name text. Exactly 3 result.status (IsRefused name text)) }
     ensures finished { OfText (map string_bytes words.now) (S.left src.old) (λ name text. ExactlyWritten 0 result.status (Finishes name text)) }
     ensures stopped { OfText (map string_bytes words.now) (S.left src.old) (λ name text. ExactlyWritten 8 result.status (Stops name text)) }
+    // An accepted text has an answer, but for faults and want of memory.
+    ensures accepted { OfText (map string_bytes words.now) (S.left src.old) (λ name text. AnswersAccepted result.status name text) }
     ensures status { IsTrue (is_status result.status) }
     // The record is that of the run, and else empty.
     ensures run { is_run result.status ≡ true → OfText (map string_bytes words.now) (S.left src.old) (λ name text. HasRun name text result.run) }

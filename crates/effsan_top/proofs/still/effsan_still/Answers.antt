@@ -27,6 +27,10 @@ pub returns-in-Ok-clause-stopped : goal.returns-in-Ok-clause-stopped
 returns-in-Ok-clause-stopped g c name text asked told =
     (of_run _ _ c.in-Ok.answer.run c.written.result.status c.in-Ok.ensures.run c.written.ensures.status name text asked told).0.stopped
 
+pub returns-in-Ok-clause-accepted : goal.returns-in-Ok-clause-accepted
+returns-in-Ok-clause-accepted g c name text asked told =
+    (of_run _ _ c.in-Ok.answer.run c.written.result.status c.in-Ok.ensures.run c.written.ensures.status name text asked told).0.accepted
+
 pub returns-in-Ok-clause-status : goal.returns-in-Ok-clause-status
 returns-in-Ok-clause-status g c =
     rw (is_a_run _ _ c.in-Ok.answer.run c.written.result.status c.in-Ok.ensures.run c.written.ensures.status).known refl
@@ -55,6 +59,10 @@ returns-in-Err-clause-finished g c name text asked told =
 pub returns-in-Err-clause-stopped : goal.returns-in-Err-clause-stopped
 returns-in-Err-clause-stopped g c name text asked told =
     rw c.refused.ensures.status (of_refusal (map string_bytes c.args.words.now) (g.S.Source.left c.args.src.now) (Rose (g.S.Source.faults c.args.src.now) (g.S.Source.faults c.answer_words.new.src)) (seen c.in-Err.refusal) c.in-Err.ensures.refused name text asked told).stopped
+
+pub returns-in-Err-clause-accepted : goal.returns-in-Err-clause-accepted
+returns-in-Err-clause-accepted g c name text asked told =
+    rw c.refused.ensures.status (of_refusal (map string_bytes c.args.words.now) (g.S.Source.left c.args.src.now) (Rose (g.S.Source.faults c.args.src.now) (g.S.Source.faults c.answer_words.new.src)) (seen c.in-Err.refusal) c.in-Err.ensures.refused name text asked told).accepted
 
 pub returns-in-Err-clause-err : goal.returns-in-Err-clause-err
 returns-in-Err-clause-err g c _ =
