@@ -5,12 +5,11 @@ mod error;
 mod expression;
 mod scope;
 mod statement;
-mod text;
 mod tokens;
 mod tree;
 mod unit;
 
+pub use c_types::Text;
 pub use error::ParseError;
-pub use text::Text;
 pub use tree::{Expression, Function, Operator, Place, Statement, Unit};
 pub use unit::{law_derivation, parse};

@@ -1,6 +1,6 @@
 //! What a text says: its functions, statements and expressions.
 
-use crate::text::Text;
+use c_types::Text;
 use sqlite_items::{Boxed, Items};
 
 /// The number of a node's first token, counted from 0, and the line that it stands on.

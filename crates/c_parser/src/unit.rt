@@ -10,10 +10,10 @@ ghost use Rattle.c_parser.specs.Grammar.{Derives, max_depth};
 use crate::error::ParseError;
 use crate::scope::{Scope, is_reserved};
 use crate::statement::statement;
-use crate::text::Text;
 use crate::tokens::{expect, name_at, place_at};
 use crate::tree::{Function, Unit};
 use c_tokens::{Keyword, Kind, Mark, Token};
+use c_types::Text;
 use sqlite_items::Items;
 use std::alloc::Global;
 

@@ -8,6 +8,8 @@ mod faults;
 #[cfg(test)]
 mod form;
 #[cfg(test)]
+mod layout;
+#[cfg(test)]
 mod limits;
 #[cfg(test)]
 mod runs;

@@ -1,0 +1,5 @@
+mod Within
+mod Least
+mod Consequences
+mod Scalars
+mod Searched

@@ -1,0 +1,4 @@
+pub mod Runs
+pub mod Matches
+pub mod Preferred
+pub mod Search
