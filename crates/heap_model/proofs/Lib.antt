@@ -1,0 +1,16 @@
+pub mod Lists
+pub mod Slots
+pub mod Classes
+pub mod Parts
+pub mod Regional
+pub mod RegionsLaw
+pub mod Counts
+pub mod Apart
+pub mod Merge
+pub mod Examples
+pub mod State
+pub mod Push
+pub mod Performed
+pub mod Puts
+pub mod Sorting
+pub mod Unique

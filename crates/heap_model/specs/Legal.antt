@@ -1,0 +1,93 @@
+-- Legal histories.
+use Rattle.std.specs.Prelude.{ℕ, ◌↔◌, ◌≡◌, ◌+◌, suc, ◌≤◌, Bool, true, false, ◌&&◌, ◌==◌, nat_le, List, [], ◌∷◌, length, filter, Some}
+use Rattle.heap_model.specs.Regions.{Slot, slot_of, slot_address, address_of, version_of}
+use Rattle.heap_model.specs.Heap.{Object, empty, live_count, made_count, full}
+use Rattle.heap_model.specs.Answers.{Name, region, Words, is_in, is_at, answer, next}
+use Rattle.heap_model.specs.Preference.{Preference}
+use Rattle.heap_model.specs.Forms.{region_for, fits_call}
+use Rattle.heap_model.specs.declared.calls.Call.{Call}
+use Rattle.heap_model.specs.declared.calls.Call.TheVariants.{Alloc}
+use Rattle.heap_model.specs.declared.calls.Reply.{Reply}
+use Rattle.heap_model.specs.declared.calls.Reply.TheVariants.{Placed, NoSlot}
+use Rattle.heap_model.specs.declared.calls.Entry.{Entry}
+
+-- an object may be placed by this word
+pub record MayPlace (h : Words) (r word : ℕ) : Type 0 where
+  pub slot : Slot
+  pub slot_is : slot_of (address_of word) ≡ Some slot
+  pub of_region : slot.region ≡ r
+  pub address : address_of word ≡ slot_address slot + 16
+  pub no_live : live_count (is_in slot) h ≡ 0
+  pub version : version_of word ≡ 1 + made_count (is_in slot) h
+
+-- the heap may give this reply to an allocation in a region
+unfoldable pub AllocAnswers : Words → ℕ → Reply → Type 0
+AllocAnswers h r NoSlot = full region h r ≡ true
+AllocAnswers h r (Placed word) = (full region h r ≡ false) × MayPlace h r word
+AllocAnswers h r _ = ⊥
+
+-- the heap may give this reply to the call, in its region
+unfoldable pub Answers : Preference → Words → ℕ → Call → Reply → Type 0
+Answers preferred h r (Alloc elem size fixed) reply = AllocAnswers h r reply
+Answers preferred h r call reply = reply ≡ answer preferred h call
+
+-- an entry meets the rules at this heap
+pub record Meets (preferred : Preference) (h : Words) (e : Entry) : Type 0 where
+  pub fits : fits_call e.call ≡ true
+  pub region_is : region_for e.call ≡ Some e.region
+  pub answers : Answers preferred h e.region e.call e.reply
+
+abbrev pub after : Words → Entry → Words
+after h e = next e.worker e.number h e.call e.reply
+
+-- each entry meets the rules at the heap that the entries before it leave
+abbrev pub IsLegalFrom : Preference → Words → List Entry → Type 0
+IsLegalFrom preferred h [] = Unit {0}
+IsLegalFrom preferred h (e ∷ es) = Meets preferred h e × IsLegalFrom preferred (after h e) es
+
+abbrev pub IsLegal : Preference → List Entry → Type 0
+IsLegal preferred history = IsLegalFrom preferred empty history
+
+-- the heap that a history leaves
+abbrev pub replay : Words → List Entry → Words
+replay h [] = h
+replay h (e ∷ es) = replay (after h e) es
+
+-- the entries of a region, and of a worker
+abbrev pub of_region : ℕ → List Entry → List Entry
+of_region r history = filter (λ e. e.region == r) history
+
+abbrev pub own : List Entry → ℕ → List Entry
+own history w = filter (λ e. e.worker == w) history
+
+-- the numbers of the entries go on from n
+abbrev pub CountsFrom : ℕ → List Entry → Type 0
+CountsFrom n [] = Unit {0}
+CountsFrom n (e ∷ es) = (e.number ≡ n) × CountsFrom (suc n) es
+
+abbrev pub IsWellNumbered : List Entry → Type 0
+IsWellNumbered history = (w : ℕ) → CountsFrom 0 (own history w)
+
+-- each entry is of one of the regions
+abbrev pub InRegions : List Entry → Type 0
+InRegions [] = Unit {0}
+InRegions (e ∷ es) = (1 ≤ e.region) × (e.region ≤ 27) × InRegions es
+
+-- A history is legal exactly where its restriction to each region is.
+abbrev pub RegionsLaw : Type 0
+RegionsLaw =
+    (preferred : Preference) (history : List Entry) → IsWellNumbered history → InRegions history
+    → (IsLegal preferred history ↔ ((r : ℕ) → 1 ≤ r → r ≤ 27 → IsLegal preferred (of_region r history)))
+
+-- whether an address is in the object, its end included
+abbrev pub covers : ℕ → Object Name ℕ → Bool
+covers a o = let first = slot_address o.name.slot + 16 in nat_le first a && nat_le a (first + length o.body.cells)
+
+-- each address is in at most one live object, and each version of a slot is that of at most one object
+pub record IsApart (h : Words) : Type 0 where
+  pub live : (a : ℕ) → length (filter (covers a) h.live) ≤ 1
+  pub versions : (s : Slot) (v : ℕ) → made_count (is_at (Some s) v) h ≤ 1
+
+-- In a legal history no two live objects overlap, and no slot has a version twice.
+abbrev pub ApartLaw : Type 0
+ApartLaw = (preferred : Preference) (history : List Entry) → IsLegal preferred history → IsApart (replay empty history)

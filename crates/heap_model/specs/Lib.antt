@@ -1,0 +1,12 @@
+pub mod Regions
+pub mod Reaches
+pub mod Cells
+pub mod Heap
+pub mod Preference
+pub mod Answers
+pub mod Forms
+pub mod Legal
+pub mod Performed
+pub mod Order
+pub mod State
+pub mod History
