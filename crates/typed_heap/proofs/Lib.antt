@@ -1,0 +1,10 @@
+pub mod Counted
+pub mod Seen
+pub mod Numbers
+pub mod Standing
+pub mod Placing
+pub mod Accessing
+pub mod Bounded
+pub mod Ending
+pub mod Freeing
+pub mod Stepping

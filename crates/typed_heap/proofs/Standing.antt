@@ -1,0 +1,170 @@
+-- What a word names by the places, and one place that changes.
+use Rattle.std.proofs.Common.{◌≡◌, ℕ, ◌-◌, ◌/◌, ◌^◌, ◌<◌, ◌≤◌, Bool, true, false, cond, ◌&&◌, ◌==◌, List, [], ◌∷◌, ◌++◌, length, get_or, set, Option, Some, None, is_some, refl, sym, ap, ◌∙◌, subst, ◌⊎◌, inl, inr, arith, length-append}
+use Rattle.std.specs.Prelude.{nat_lt, nat_le, option_map, unwrap_or}
+use Rattle.std.proofs.lemmas.List.{get_or-set_same, get_or-set_other, get_or_past, get_or_push, get_or_append_left}
+use Rattle.std.proofs.lemmas.List.Sums.{sum_by-set, sum_by_push}
+use Rattle.std.proofs.lemmas.Bool.{eq-eqb, ne_eqb, cases_eq, cases_lt, ltb-true, ltb-false}
+use Rattle.std.proofs.lemmas.Bool.Decides.{nat_tests}
+use Rattle.heap_model.specs.Regions.{Slot, is_slot, slot_of, slot_number, slot_in as slot_within, first_multiple, size_of, slots, region_of, address_of, version_of, offset_in}
+use Rattle.heap_model.specs.Answers.{offset, slot_at}
+use Rattle.heap_model.specs.Heap.{Body}
+use Rattle.heap_model.specs.State.{State, Place, no_place, place_of, live_at, dead_at, at_slot, live_by, dead_by, Changed, one_if}
+use Rattle.typed_heap.specs.Naming.{IsInSlot, NamesNone, NamesLive, slot_in}
+use Rattle.typed_heap.specs.Places.{place_at, next_object, with_object}
+
+-- ---- names
+
+pub here : (st : State) (n : ℕ) → place_of st (slot_in st n) ≡ place_at st.places n
+here st n = ap (λ b. cond b (place_at st.places n) no_place) (eq-eqb st.region st.region refl)
+
+module _ (st : State) (anchor n : ℕ) (at : IsInSlot st anchor n) (word : ℕ) where
+  pub live-here : live_by st anchor word ≡ live_at (place_at st.places n) (version_of word)
+  live-here = ap (at_slot (λ t. live_at (place_of st t) (version_of word)) None) at.slot ∙ ap (λ p. live_at p (version_of word)) (here st n)
+
+  pub dead-here : dead_by st anchor word ≡ dead_at (place_at st.places n) (version_of word)
+  dead-here = ap (at_slot (λ t. dead_at (place_of st t) (version_of word)) false) at.slot ∙ ap (λ p. dead_at p (version_of word)) (here st n)
+
+pub live-named : (st : State) (anchor word n : ℕ) (named : NamesLive st anchor word n) → live_by st anchor word ≡ Some named.object
+live-named st anchor word n named =
+    live-here st anchor n named.at word
+    ∙ ap (λ b. cond b (place_at st.places n).body None) (eq-eqb _ _ named.version) ∙ named.body
+
+-- where no place is
+live-nowhere : (v : ℕ) → live_at no_place v ≡ None
+live-nowhere v = go (v == 0)
+  where
+    go : (b : Bool) → ◌≡◌ {A = Option (Body ℕ)} (cond b None None) None
+    go true = refl
+    go false = refl
+
+dead-nowhere : (v : ℕ) → dead_at no_place v ≡ false
+dead-nowhere v = grind (arith, nat_tests)
+
+pub names-none : (st : State) (anchor : ℕ) → at_slot (place_of st) no_place (slot_of anchor) ≡ no_place → (word : ℕ) → NamesNone st anchor word
+names-none st anchor nowhere word = record { live = (go (slot_of anchor) nowhere).0; dead = (go (slot_of anchor) nowhere).1 }
+  where
+    go : (o : Option Slot) → at_slot (place_of st) no_place o ≡ no_place
+        → (at_slot (λ t. live_at (place_of st t) (version_of word)) None o ≡ None) × (at_slot (λ t. dead_at (place_of st t) (version_of word)) false o ≡ false)
+    go None e = (refl, refl)
+    go (Some t) e = (ap (λ p. live_at p (version_of word)) e ∙ live-nowhere (version_of word), ap (λ p. dead_at p (version_of word)) e ∙ dead-nowhere (version_of word))
+
+-- an address in a slot of the region that was taken
+slot-found : (anchor n r : ℕ) → region_of anchor ≡ Some r → Some n ≡ slot_number anchor → slot_of anchor ≡ Some (record { region = r; number = n })
+unfolding slot_of slot_within
+slot-found anchor n r in_region number = go (region_of anchor) in_region number
+  where
+    go : (o : Option ℕ) → o ≡ Some r → Some n ≡ option_map {T = Slot} (λ s. s.number) (slot_within o anchor) → slot_within o anchor ≡ Some (record { region = r; number = n })
+    go None e f = cc
+    go (Some q) e f = two (nat_le (first_multiple q) (anchor / size_of q) && nat_lt (anchor / size_of q - first_multiple q) (slots q)) f
+      where
+        two : (b : Bool) → Some n ≡ option_map {T = Slot} (λ s. s.number) (cond {A = Option Slot} b (Some (record { region = q; number = anchor / size_of q - first_multiple q })) None)
+            → cond {A = Option Slot} b (Some (record { region = q; number = anchor / size_of q - first_multiple q })) None ≡ Some (record { region = r; number = n })
+        two true f = cc
+        two false f = cc
+
+pub in-slot : (st : State) (anchor n : ℕ) → region_of anchor ≡ Some st.region → Some n ≡ slot_number anchor → n < length st.places → IsInSlot st anchor n
+in-slot st anchor n in_region number taken = record { taken = taken; slot = slot-found anchor n st.region in_region number }
+
+-- an address of another region, and one in a slot that was not taken
+pub elsewhere : (st : State) (anchor n r : ℕ) → region_of anchor ≡ Some r → Some n ≡ slot_number anchor → (r ≡ st.region → ⊥) → (word : ℕ) → NamesNone st anchor word
+elsewhere st anchor n r in_region number other =
+    names-none st anchor
+    (ap (at_slot (place_of st) no_place) (slot-found anchor n r in_region number) ∙ ap (λ b. cond b (get_or st.places n no_place) no_place) (ne_eqb r st.region other))
+
+pub untaken : (st : State) (anchor n : ℕ) → region_of anchor ≡ Some st.region → Some n ≡ slot_number anchor → length st.places ≤ n → (word : ℕ) → NamesNone st anchor word
+untaken st anchor n in_region number past =
+    names-none st anchor
+    (ap (at_slot (place_of st) no_place) (slot-found anchor n st.region in_region number) ∙ here st n ∙ get_or_past st.places n no_place past)
+
+pub no-slot : (st : State) (anchor : ℕ) → None ≡ slot_number anchor → (word : ℕ) → NamesNone st anchor word
+no-slot st anchor none = names-none st anchor (go (slot_of anchor) none)
+  where
+    go : (o : Option Slot) → None ≡ option_map {T = Slot} (λ s. s.number) o → at_slot (place_of st) no_place o ≡ no_place
+    go None e = refl
+    go (Some s) e = cc
+
+pub no-region : (st : State) (anchor : ℕ) → region_of anchor ≡ None → (word : ℕ) → NamesNone st anchor word
+unfolding slot_of slot_within
+no-region st anchor none = names-none st anchor (ap (λ o. at_slot (place_of st) no_place (slot_within o anchor)) none)
+
+-- how far a word is behind the first byte there
+pub offset-here : (st : State) (anchor n : ℕ) → IsInSlot st anchor n → (word : ℕ) → offset anchor word ≡ offset_in (slot_in st n) (address_of word)
+unfolding offset slot_at
+offset-here st anchor n at word = ap (λ s. offset_in (unwrap_or s (record { region = 0; number = 0 })) (address_of word)) at.slot
+
+pub offset-bound : (s : Slot) (address : ℕ) → offset_in s address < 2 ^ 40
+unfolding offset_in
+offset-bound s address = omega arith
+
+pub address-bound : (word : ℕ) → address_of word < 2 ^ 40
+unfolding address_of
+address-bound word = omega arith
+
+-- a region has few slots
+pub few-slots : (r : ℕ) → slots r ≤ 65536
+unfolding slots
+few-slots r = omega arith
+
+-- ---- a change
+
+-- an element that is set, as a choice
+pub set-at : (xs : List Place) (n : ℕ) (p : Place) → n < length xs → (m : ℕ) → get_or (set xs n p) m no_place ≡ cond (m == n) p (get_or xs m no_place)
+set-at xs n p below m = go (cases_eq m n)
+  where
+    go : (m ≡ n) ⊎ (m ≡ n → ⊥) → get_or (set xs n p) m no_place ≡ cond (m == n) p (get_or xs m no_place)
+    go (inl e) =
+        ap (λ k. get_or (set xs n p) k no_place) e ∙ get_or-set_same xs n p no_place below ∙ ap (λ b. cond b p (get_or xs m no_place)) (sym (eq-eqb m n e))
+    go (inr other) = get_or-set_other xs n m p no_place other ∙ ap (λ b. cond b p (get_or xs m no_place)) (sym (ne_eqb m n other))
+
+-- one that is added
+pub push-at : (xs : List Place) (p : Place) (m : ℕ) → get_or (xs ++ p ∷ []) m no_place ≡ cond (m == length xs) p (get_or xs m no_place)
+push-at xs p m = go (cases_eq m (length xs))
+  where
+    go : (m ≡ length xs) ⊎ (m ≡ length xs → ⊥) → get_or (xs ++ p ∷ []) m no_place ≡ cond (m == length xs) p (get_or xs m no_place)
+    go (inl e) = get_or_push xs p no_place m (sym e) ∙ ap (λ b. cond b p (get_or xs m no_place)) (sym (eq-eqb m (length xs) e))
+    go (inr other) = two (cases_lt m (length xs)) ∙ ap (λ b. cond b p (get_or xs m no_place)) (sym (ne_eqb m (length xs) other))
+      where
+        two : (m < length xs) ⊎ (length xs ≤ m) → get_or (xs ++ p ∷ []) m no_place ≡ get_or xs m no_place
+        two (inl below) = get_or_append_left xs (p ∷ []) no_place m below
+        two (inr past) = get_or_past (xs ++ p ∷ []) m no_place (omega (arith, length-append xs (p ∷ []))) ∙ sym (get_or_past xs m no_place past)
+
+-- a choice between places, for a slot of another region too
+chosen : (st : State) (places : List Place) (n : ℕ) (p : Place) → ((m : ℕ) → get_or places m no_place ≡ cond (m == n) p (get_or st.places m no_place))
+    → (t : Slot) → place_of (record { region = st.region; places = places }) t ≡ cond (is_slot t (slot_in st n)) p (place_of st t)
+chosen st places n p at t = go (t.region == st.region)
+  where
+    go : (b : Bool) → cond b (get_or places t.number no_place) no_place ≡ cond (b && (t.number == n)) p (cond b (get_or st.places t.number no_place) no_place)
+    go true = at t.number
+    go false = refl
+
+pub changed-set : (st : State) (n : ℕ) (p : Place) → n < length st.places → Changed st (record { region = st.region; places = set st.places n p }) (slot_in st n) p
+changed-set st n p below = record {
+  region_is = refl;
+  place = chosen st (set st.places n p) n p (set-at st.places n p below);
+  live = omega (arith, sum_by-set (λ p. one_if (is_some p.body)) st.places n p no_place below, ap (λ p. one_if (is_some p.body)) (here st n));
+  made = omega (arith, sum_by-set (λ p. p.versions) st.places n p no_place below, ap (λ p. p.versions) (here st n));
+}
+
+pub changed-push : (st : State) (p : Place) → Changed st (record { region = st.region; places = st.places ++ p ∷ [] }) (slot_in st (length st.places)) p
+changed-push st p =
+    let past : place_of st (slot_in st (length st.places)) ≡ no_place = here st (length st.places) ∙ get_or_past st.places (length st.places) no_place (omega arith) in
+    record {
+      region_is = refl;
+      place = chosen st (st.places ++ p ∷ []) (length st.places) p (push-at st.places p);
+      live = omega (arith, sum_by_push (λ p. one_if (is_some p.body)) st.places p, ap (λ p. one_if (is_some p.body)) past);
+      made = omega (arith, sum_by_push (λ p. p.versions) st.places p, ap (λ p. p.versions) past);
+    }
+
+-- an object is placed in a slot
+pub changed-object : (st : State) (n : ℕ) (o : Body ℕ) → n ≤ length st.places
+    → Changed st (record { region = st.region; places = with_object st.places n o }) (slot_in st n) (next_object (place_of st (slot_in st n)) o)
+changed-object st n o next = go (nat_lt n (length st.places)) refl
+  where
+    go : (b : Bool) → nat_lt n (length st.places) ≡ b
+        → Changed st (record { region = st.region; places = cond b (set st.places n (next_object (place_at st.places n) o)) (st.places ++ next_object no_place o ∷ []) }) (slot_in st n) (next_object (place_of st (slot_in st n)) o)
+    go true e = subst (λ p. Changed st (record { region = st.region; places = set st.places n (next_object (place_at st.places n) o) }) (slot_in st n) (next_object p o)) (sym (here st n)) (changed-set st n (next_object (place_at st.places n) o) (ltb-true _ _ e))
+    go false e =
+        let last : n ≡ length st.places = omega (arith, ltb-false _ _ e) in
+        let past : place_of st (slot_in st n) ≡ no_place = here st n ∙ get_or_past st.places n no_place (omega arith) in
+        subst (λ p. Changed st (record { region = st.region; places = st.places ++ next_object no_place o ∷ [] }) (slot_in st n) (next_object p o)) (sym past)
+        (subst (λ k. Changed st (record { region = st.region; places = st.places ++ next_object no_place o ∷ [] }) (slot_in st k) (next_object no_place o)) (sym last) (changed-push st (next_object no_place o)))

@@ -1,0 +1,59 @@
+use Rattle.std.proofs.Common.{◌≡◌, ◌∙◌, ◌==◌, ℕ, true, false, None, refl, sym, ap, subst}
+use Rattle.std.proofs.lemmas.Bool.{eq-eqb, ne_eqb}
+use Rattle.heap_model.specs.Regions.{version_of, address_of}
+use Rattle.heap_model.specs.Answers.{next}
+use Rattle.heap_model.specs.State.{StandsFor, live_by, dead_by}
+use Rattle.heap_model.specs.declared.calls.Call.TheVariants.{Free}
+use Rattle.heap_model.specs.declared.calls.Reply.TheVariants.{Done}
+use Rattle.typed_heap.specs.Places.{place_at}
+use Rattle.typed_heap.proofs.Standing.{live-named}
+use Rattle.typed_heap.proofs.Freeing.{free-zero, free-null, free-at, null-frees-nothing}
+use Rattle.typed_heap.proofs.heap.RegionHeap.free.Goals as goal
+use Rattle.typed_heap.proofs.heap.RegionHeap.free.Goals.{Else-version_of-eq0}
+
+not_null : (c : Else-version_of-eq0) → (version_of c.args.p == 0) ≡ false
+not_null c = ne_eqb _ _ (λ e. c.if-version_of-eq0.false (c.version_of.ensures ∙ e))
+
+pub named-requires : goal.named-requires
+named-requires c = not_null (goal.at.named-requires c).Else-version_of-eq0
+
+pub returns-then-p-eq0-clause-answer : goal.returns-then-p-eq0-clause-answer
+returns-then-p-eq0-clause-answer c = λ preferred. free-zero preferred (live_by c.args.self.now) (dead_by c.args.self.now) c.args.p c.args.fixed c.if-p-eq0.true
+
+pub returns-then-p-eq0-clause-next : goal.returns-then-p-eq0-clause-next
+returns-then-p-eq0-clause-next c = λ worker number h stands.
+    subst (λ (p : ℕ). StandsFor c.args.self.now (next worker number h (Free p c.args.fixed) Done)) (sym c.if-p-eq0.true) (null-frees-nothing c.args.self.now c.args.fixed worker number h stands)
+
+pub returns-then-version_of-eq0-clause-answer : goal.returns-then-version_of-eq0-clause-answer
+returns-then-version_of-eq0-clause-answer c = λ preferred.
+    free-null preferred (live_by c.args.self.now) (dead_by c.args.self.now) c.args.p c.args.fixed c.if-p-eq0.false (eq-eqb _ _ (sym c.version_of.ensures ∙ c.if-version_of-eq0.true))
+
+pub returns-then-version_of-eq0-clause-next : goal.returns-then-version_of-eq0-clause-next
+unfolding next
+returns-then-version_of-eq0-clause-next c = λ worker number h stands. stands
+
+pub returns-in-Nothing-clause-answer : goal.returns-in-Nothing-clause-answer
+returns-in-Nothing-clause-answer c = λ preferred.
+    free-at preferred (live_by c.args.self.now) (dead_by c.args.self.now) c.args.p c.args.fixed c.if-p-eq0.false (not_null (goal.at.returns-in-Nothing-clause-answer c).Else-version_of-eq0) None false
+    (ap (λ a. live_by c.args.self.now a c.args.p) (sym c.address_of.ensures) ∙ c.in-Nothing.ensures.live) (ap (λ a. dead_by c.args.self.now a c.args.p) (sym c.address_of.ensures) ∙ c.in-Nothing.ensures.dead)
+
+pub returns-in-Nothing-clause-next : goal.returns-in-Nothing-clause-next
+unfolding next
+returns-in-Nothing-clause-next c = λ worker number h stands. stands
+
+pub returns-in-Dead-clause-answer : goal.returns-in-Dead-clause-answer
+returns-in-Dead-clause-answer c = λ preferred.
+    c.free_of_dead.ensures.answer c.args.fixed
+    ∙ free-at preferred (live_by c.args.self.now) (dead_by c.args.self.now) c.args.p c.args.fixed c.if-p-eq0.false (not_null (goal.at.returns-in-Dead-clause-answer c).Else-version_of-eq0) None true
+    (ap (λ a. live_by c.args.self.now a c.args.p) (sym c.address_of.ensures) ∙ c.in-Dead.ensures.live) (ap (λ a. dead_by c.args.self.now a c.args.p) (sym c.address_of.ensures) ∙ c.in-Dead.ensures.dead)
+
+pub returns-in-Dead-clause-next : goal.returns-in-Dead-clause-next
+unfolding next
+returns-in-Dead-clause-next c = λ worker number h stands. stands
+
+pub returns-in-Live-clause-answer : goal.returns-in-Live-clause-answer
+returns-in-Live-clause-answer c = λ preferred.
+    c.free_of_live.ensures.answer (dead_by c.args.self.now (address_of c.args.p) c.args.p)
+    ∙ free-at preferred (live_by c.args.self.now) (dead_by c.args.self.now) c.args.p c.args.fixed c.if-p-eq0.false (not_null (goal.at.returns-in-Live-clause-answer c).Else-version_of-eq0)
+    (place_at c.args.self.now.places c.in-Live.slot).body (dead_by c.args.self.now (address_of c.args.p) c.args.p)
+    (ap (λ a. live_by c.args.self.now a c.args.p) (sym c.address_of.ensures) ∙ live-named c.args.self.now c.address_of.result c.args.p c.in-Live.slot c.in-Live.ensures ∙ sym c.in-Live.ensures.body) refl

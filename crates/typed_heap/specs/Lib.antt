@@ -1,0 +1,5 @@
+pub mod Places
+pub mod View
+pub mod Naming
+pub mod Region
+pub mod Takes

@@ -1,0 +1,57 @@
+-- What a word names among the slots of a region.
+use Rattle.std.specs.Prelude.{◌≡◌, ℕ, ◌<◌, true, false, length, Some, None, ◌==◌}
+use Rattle.heap_model.specs.Regions.{Slot, slot_of, address_of, version_of}
+use Rattle.heap_model.specs.Cells.{Act, misplaced, width}
+use Rattle.heap_model.specs.Heap.{Body}
+use Rattle.heap_model.specs.Answers.{access, is_inside, offset}
+use Rattle.heap_model.specs.Forms.{is_access_report}
+use Rattle.heap_model.specs.declared.calls.AccessKind.{AccessKind}
+use Rattle.heap_model.specs.declared.calls.Reach.{Reach}
+use Rattle.heap_model.specs.declared.calls.ReportKind.{ReportKind}
+use Rattle.heap_model.specs.declared.calls.Reply.TheVariants.{Report}
+use Rattle.heap_model.specs.State.{State, live_by, dead_by}
+use Rattle.typed_heap.specs.Places.{place_at}
+use Rattle.typed_heap.specs.declared.heap.Named.{Named}
+use Rattle.typed_heap.specs.declared.heap.Named.TheVariants.{Nothing, Dead, Live}
+
+abbrev pub slot_in : State → ℕ → Slot
+slot_in st n = record { region = st.region; number = n }
+
+-- an address lies in a slot that was taken
+pub record IsInSlot (st : State) (anchor n : ℕ) : Type 0 where
+  pub taken : n < length st.places
+  pub slot : slot_of anchor ≡ Some (slot_in st n)
+
+-- by this anchor a word names no object
+pub record NamesNone (st : State) (anchor word : ℕ) : Type 0 where
+  pub live : live_by st anchor word ≡ None
+  pub dead : dead_by st anchor word ≡ false
+
+-- by this anchor a word names a dead object of a slot
+pub record NamesDead (st : State) (anchor word n : ℕ) : Type 0 where
+  pub at : IsInSlot st anchor n
+  pub live : live_by st anchor word ≡ None
+  pub dead : dead_by st anchor word ≡ true
+
+-- by this anchor a word names the live object of a slot
+pub record NamesLive (st : State) (anchor word n : ℕ) : Type 0 where
+  pub at : IsInSlot st anchor n
+  pub version : version_of word ≡ (place_at st.places n).versions
+  pub object : Body ℕ
+  pub body : (place_at st.places n).body ≡ Some object
+
+abbrev pub Names : State → ℕ → ℕ → Named → Type 0
+Names st anchor word Nothing = NamesNone st anchor word
+Names st anchor word (Dead n) = NamesDead st anchor word n
+Names st anchor word (Live n) = NamesLive st anchor word n
+
+-- An access of this kind is in its place: at this offset of the live object of a slot.
+pub record IsLocated (st : State) (p : ℕ) (reach : Reach) (kind : AccessKind) (n k : ℕ) : Type 0 where
+  pub not_null : (version_of p == 0) ≡ false
+  pub named : NamesLive st reach.lo p n
+  pub offset_is : k ≡ offset reach.lo p
+  pub placed : misplaced (is_inside reach (address_of p) (width kind)) k (width kind) (length named.object.cells) ≡ None
+
+-- An access of this kind is not in its place, and gets this report, whatever it does.
+abbrev pub IsRefused : State → ℕ → Reach → AccessKind → ReportKind → Type 0
+IsRefused st p reach kind report = ((act : Act ℕ) → access (live_by st) p reach kind act ≡ Report report) × (is_access_report report ≡ true)

@@ -1,0 +1,32 @@
+//! The place of an access in its object.
+
+ghost use Rattle.std.specs.Prelude.{◌≡◌, ◌+◌, ◌^◌, ◌≤◌, ◌<◌};
+ghost use Rattle.heap_model.specs.Answers as answers;
+ghost use Rattle.heap_model.specs.Cells as model;
+
+use heap_model::{Reach, ReportKind};
+
+/// Whether `width` bytes from an address on are inside a reach.
+pub fn is_inside(reach: &Reach, address: u64, width: u64) -> bool
+    requires { address + width < 2 ^ 64 }
+    ensures { result ≡ answers.is_inside reach.now address width }
+{
+    reach.lo <= address && address + width <= reach.hi
+}
+
+/// The report on an access to `width` bytes at an offset of an object of `size` bytes, if it is not in its place. `inside`
+/// says whether the bytes are inside the reach.
+#[tactic(auto, unfolding(heap_model::specs::Cells::misplaced))]
+pub fn misplaced(inside: bool, offset: u64, width: u64, size: u64) -> Option<ReportKind>
+    requires fits { offset + width < 2 ^ 64 }
+    requires width { 1 ≤ width }
+    ensures { result ≡ model.misplaced inside offset width size }
+{
+    if !inside || offset + width > size {
+        Some(ReportKind::Bounds)
+    } else if offset % width != 0 {
+        Some(ReportKind::Align)
+    } else {
+        None
+    }
+}

@@ -1,0 +1,384 @@
+//! The heap of one region.
+
+ghost use Rattle.std.specs.Prelude.{◌≡◌, ◌+◌, ◌-◌, ◌^◌, ◌≤◌, ◌<◌, ◌==◌, ◌||◌, ℕ, Bool, List, [], Some, None, true, false, length, IfOk, IfSome, OnErr, MatchOption, MatchResult};
+ghost use Rattle.c_types.specs.declared.table.CType.{CType};
+ghost use Rattle.c_types.specs.Table.{HasSize};
+ghost use Rattle.heap_model.specs.Answers as answers;
+ghost use Rattle.heap_model.specs.Answers.{Words, access, answer_by, next, reply};
+ghost use Rattle.heap_model.specs.Cells.{Loads, Stores, Number};
+ghost use Rattle.heap_model.specs.Forms.{fits_call, is_free_report, is_number, region_for, suits_alloc, suits_call, suits_check, suits_free, suits_load, suits_store};
+ghost use Rattle.heap_model.specs.Heap.{Body, empty, free_outcome};
+ghost use Rattle.heap_model.specs.Legal.{Answers, AllocAnswers};
+ghost use Rattle.heap_model.specs.Preference.{Preference, preference_of};
+ghost use Rattle.heap_model.specs.Regions as regions;
+ghost use Rattle.heap_model.specs.State.{StandsFor, live_places, all_versions, live_by, dead_by};
+ghost use Rattle.typed_heap.specs.Naming.{IsInSlot, IsLocated, IsRefused, NamesLive, NamesNone, Names, slot_in};
+ghost use Rattle.typed_heap.specs.Places.{place_at};
+ghost use Rattle.typed_heap.specs.Takes.{KnowsElements, KnowsTypes, moves_numbers, takes_memory};
+
+use crate::accesses::{is_inside, misplaced};
+use crate::object::Object;
+use crate::slots::Slots;
+use c_types::{TypeNo, TypeTable};
+use heap_model::{
+    AccessKind, Call, HEADER, Reach, Reply, ReportKind, Value, address_of, extended, law_slots,
+    law_words, offset_of, pack, region_of, slot_address, slot_number, slots_of, version_of,
+    width_of,
+};
+use std::alloc::{AllocError, Global};
+use std::marker::Model;
+use type_layout::{Bounds, law_inside, preferred, runs};
+
+/// How many objects may be made in a region: as many as versions tell apart.
+const MOST_MADE: u32 = 0xff_ffff;
+
+/// What a word names: no object, a dead one, or the live one, with the slot.
+#[derive(Clone, Copy, Debug)]
+enum Named {
+    Nothing,
+    Dead(u32),
+    Live(u32),
+}
+
+/// The place of an access: the slot of a live object, and the offset in the object.
+#[derive(Clone, Copy, Debug)]
+struct Location {
+    slot: u32,
+    offset: u64,
+}
+
+/// The heap of one region: its slots with the objects in them.
+#[derive(Drop)]
+pub struct RegionHeap {
+    alloc: Global,
+    region: u32,
+    slots: Slots,
+}
+
+impl Model for RegionHeap {
+    ghost use Rattle.heap_model.specs.State.{State};
+
+    ghost Value = { State };
+
+    ghost use Rattle.typed_heap.specs.Region.{state, IsRegion};
+
+    ghost view = { state };
+
+    ghost invariant = { IsRegion };
+}
+
+impl RegionHeap {
+    /// The empty heap of a region.
+    pub fn new(alloc: Global, region: u32) -> Result<RegionHeap, AllocError>
+        requires { (1 ≤ region) × (region ≤ 27) }
+        ensures region { IfOk result (λ heap. heap.region ≡ region) }
+        ensures empty { IfOk result (λ heap. heap.places ≡ []) }
+        ensures stands { IfOk result (λ heap. StandsFor heap empty) }
+    {
+        Ok(RegionHeap {
+            alloc,
+            region,
+            slots: Slots::new(alloc),
+        })
+    }
+
+    /// The region's number.
+    pub fn region(&self) -> u32
+        ensures { result ≡ self.now.region }
+    {
+        self.region
+    }
+
+    /// How many objects live in the region.
+    pub fn live(&self) -> u32
+        ensures { result ≡ live_places self.now }
+    {
+        self.slots.live()
+    }
+
+    /// How many objects were ever made in the region.
+    pub fn made(&self) -> u32
+        ensures { result ≡ all_versions self.now }
+    {
+        self.slots.made()
+    }
+
+    /// Whether no further object can be placed.
+    fn is_full(&self) -> bool
+        ensures { result ≡ ((live_places self.now == regions.slots self.now.region) || (all_versions self.now == 2 ^ 24 - 1)) }
+    {
+        self.slots.live() == slots_of(self.region) || self.slots.made() == MOST_MADE
+    }
+
+    /// The word of the first byte of the last object of a slot.
+    fn word(&self, slot: u32) -> u64
+        requires { slot < length self.now.places }
+        ensures address { regions.address_of result ≡ regions.slot_address (slot_in self.now slot) + 16 }
+        ensures slot { regions.slot_of (regions.address_of result) ≡ Some (slot_in self.now slot) }
+        ensures version { regions.version_of result ≡ (place_at self.now.places slot).versions }
+    {
+        law_slots();
+        law_words();
+        let first = slot_address(self.region, slot) + HEADER;
+        pack(first, self.slots.version(slot))
+    }
+
+    /// The slot of an address, if it was taken.
+    fn slot(&self, anchor: u64) -> Option<u32>
+        ensures { MatchOption result ((word : ℕ) → NamesNone self.now anchor word) (λ slot. IsInSlot self.now anchor slot) }
+    {
+        let region = region_of(anchor)?;
+        let slot = slot_number(anchor)?;
+        if region != self.region {
+            return None;
+        }
+        if slot >= self.slots.taken() {
+            return None;
+        }
+        Some(slot)
+    }
+
+    /// What a word that is not null names by an anchor address.
+    fn named(&self, anchor: u64, word: u64) -> Named
+        requires { (regions.version_of word == 0) ≡ false }
+        ensures { Names self.now anchor word result }
+    {
+        let Some(slot) = self.slot(anchor) else {
+            return Named::Nothing;
+        };
+        let version = version_of(word);
+        let last = self.slots.version(slot);
+        if version > last {
+            return Named::Nothing;
+        }
+        if version < last {
+            return Named::Dead(slot);
+        }
+        match self.slots.object(slot) {
+            Some(_) => Named::Live(slot),
+            None => Named::Dead(slot),
+        }
+    }
+
+    /// How far a word is behind the first byte of the object of a slot, in which the anchor lies.
+    fn offset(&self, slot: u32, anchor: u64, word: u64) -> u64
+        requires { IsInSlot self.now anchor slot }
+        ensures value { result ≡ answers.offset anchor word }
+        ensures bound { result < 2 ^ 40 }
+    {
+        offset_of(self.region, slot, address_of(word))
+    }
+
+    /// Places a new object, all its bytes zero, where there is room for one.
+    fn alloc(&mut self, elem: TypeNo, size: u64, fixed: bool) -> Result<Reply, AllocError>
+        ensures answers { IfOk result (λ reply. (h : Words) → StandsFor self.old h → AllocAnswers h self.old.region reply) }
+        ensures next { IfOk result (λ reply. (worker number : ℕ) (h : Words) → StandsFor self.old h
+            → StandsFor self.new (next worker number h (Call.Alloc elem size fixed) reply)) }
+        ensures suits { IfOk result (λ reply. suits_alloc reply ≡ true) }
+        ensures elements { (types : List CType) → HasSize types elem → KnowsElements types self.old → KnowsElements types self.new }
+        ensures region { self.new.region ≡ self.old.region }
+        ensures unchanged { OnErr result (self.new ≡ self.old) }
+    {
+        if self.is_full() {
+            return Ok(Reply::NoSlot);
+        }
+        let bytes = vec![in self.alloc; 0; size as usize]?;
+        let slot = self.slots.take(Object { elem, fixed, bytes })?;
+        Ok(Reply::Placed(self.word(slot)))
+    }
+
+    /// Ends the object that a word names.
+    fn free(&mut self, p: u64, fixed: bool) -> Reply
+        ensures answer { (preferred : Preference) → result ≡ answer_by preferred (live_by self.old) (dead_by self.old) (Call.Free p fixed) }
+        ensures next { (worker number : ℕ) (h : Words) → StandsFor self.old h → StandsFor self.new (next worker number h (Call.Free p fixed) result) }
+        ensures suits { suits_free result ≡ true }
+        ensures elements { (types : List CType) → KnowsElements types self.old → KnowsElements types self.new }
+        ensures region { self.new.region ≡ self.old.region }
+    {
+        if p == 0 {
+            return Reply::Done;
+        }
+        if version_of(p) == 0 {
+            return Reply::Report(ReportKind::BadFree);
+        }
+        match self.named(address_of(p), p) {
+            Named::Nothing => Reply::Report(ReportKind::DoubleFree),
+            Named::Dead(slot) => Reply::Report(self.free_of_dead(slot, p)),
+            Named::Live(slot) => self.free_of_live(slot, p, fixed),
+        }
+    }
+
+    /// The report on a free of a word that names a dead object of a slot.
+    fn free_of_dead(&self, slot: u32, p: u64) -> ReportKind
+        requires { IsInSlot self.now (regions.address_of p) slot }
+        ensures answer { (fixed : Bool) → Reply.Report result ≡ reply (free_outcome (answers.offset (regions.address_of p) p) fixed None true) }
+        ensures suits { is_free_report result ≡ true }
+    {
+        if self.offset(slot, address_of(p), p) == 0 {
+            ReportKind::DoubleFree
+        } else {
+            ReportKind::BadFree
+        }
+    }
+
+    /// Ends the live object of a slot, which a word names, where the word is that of its first byte and it is fixed as told.
+    fn free_of_live(&mut self, slot: u32, p: u64, fixed: bool) -> Reply
+        requires version { (regions.version_of p == 0) ≡ false }
+        requires named { NamesLive self.old (regions.address_of p) p slot }
+        ensures answer { (dead : Bool) → result ≡ reply (free_outcome (answers.offset (regions.address_of p) p) fixed (place_at self.old.places slot).body dead) }
+        ensures suits { suits_free result ≡ true }
+        ensures next { (worker number : ℕ) (h : Words) → StandsFor self.old h → StandsFor self.new (next worker number h (Call.Free p fixed) result) }
+        ensures elements { (types : List CType) → KnowsElements types self.old → KnowsElements types self.new }
+        ensures region { self.new.region ≡ self.old.region }
+    {
+        if self.offset(slot, address_of(p), p) != 0 {
+            return Reply::Report(ReportKind::BadFree);
+        }
+        if self.slots.is_fixed(slot) != fixed {
+            return Reply::Report(ReportKind::BadFree);
+        }
+        self.slots.release(slot);
+        Reply::Done
+    }
+
+    /// The bounds of the part of an object that a word means where a type is wanted.
+    fn check(&self, types: &TypeTable, p: u64, want: TypeNo) -> Result<Reply, AllocError>
+        requires want { HasSize types.now want }
+        requires elements { KnowsElements types.now self.now }
+        ensures answer { IfOk result (λ reply. reply ≡ answer_by (preference_of types.now) (live_by self.now) (dead_by self.now) (Call.Check p want)) }
+        ensures suits { IfOk result (λ reply. suits_check reply ≡ true) }
+    {
+        if version_of(p) == 0 {
+            return Ok(Reply::Report(ReportKind::Null));
+        }
+        let Named::Live(slot) = self.named(address_of(p), p) else {
+            return Ok(Reply::Report(ReportKind::Free));
+        };
+        let offset = self.offset(slot, address_of(p), p);
+        let Some(bounds) = self.preferred(types, slot, offset, want)? else {
+            return Ok(Reply::Report(ReportKind::WrongType));
+        };
+        let first = slot_address(self.region, slot) + HEADER;
+        Ok(Reply::Found(Reach {
+            lo: first + bounds.lo,
+            hi: first + bounds.hi,
+        }))
+    }
+
+    /// The preferred bounds at an offset of the live object of a slot.
+    fn preferred(
+        &self,
+        types: &TypeTable,
+        slot: u32,
+        offset: u64,
+        want: TypeNo,
+    ) -> Result<Option<Bounds>, AllocError>
+        requires taken { slot < length self.now.places }
+        requires want { HasSize types.now want }
+        requires elements { KnowsElements types.now self.now }
+        ensures value { IfOk result (λ bounds. (o : Body ℕ) → (place_at self.now.places slot).body ≡ Some o
+            → bounds ≡ preference_of types.now o.elem (length o.cells) offset want) }
+        ensures small { IfOk result (λ bounds. IfSome bounds (λ b. (b.lo < 2 ^ 63) × (b.hi < 2 ^ 63))) }
+    {
+        let Some(object) = self.slots.object(slot) else {
+            return Ok(None);
+        };
+        law_inside();
+        let size = object.bytes.len() as u64;
+        let runs = runs(self.alloc, types, object.elem, size)?;
+        Ok(preferred(types, object.elem, size, runs.as_slice(), offset, want))
+    }
+
+    /// The place of an access, or the report on it: that the word is null, names no live object, is not inside its reach or
+    /// its object, or is not aligned.
+    fn located(&self, p: u64, reach: &Reach, kind: AccessKind) -> Result<Location, ReportKind>
+        ensures { MatchResult result (λ at. IsLocated self.now p reach.now kind at.slot at.offset)
+            (λ report. IsRefused self.now p reach.now kind report) }
+    {
+        if version_of(p) == 0 {
+            return Err(ReportKind::Null);
+        }
+        let Named::Live(slot) = self.named(reach.lo, p) else {
+            return Err(ReportKind::Free);
+        };
+        let offset = self.offset(slot, reach.lo, p);
+        let width = width_of(kind);
+        let inside = is_inside(reach, address_of(p), width);
+        match misplaced(inside, offset, width, self.slots.size(slot)) {
+            Some(report) => Err(report),
+            None => Ok(Location { slot, offset }),
+        }
+    }
+
+    /// Loads a whole number.
+    fn load(&self, p: u64, reach: &Reach, kind: AccessKind) -> Reply
+        requires { is_number kind ≡ true }
+        ensures answer { result ≡ access (live_by self.now) p reach.now kind Loads }
+        ensures suits { suits_load kind result ≡ true }
+    {
+        match self.located(p, reach, kind) {
+            Ok(at) => {
+                let number = self
+                    .slots
+                    .number_at(at.slot, at.offset as usize, width_of(kind) as usize);
+                Reply::Value(Value {
+                    bits: extended(kind, number),
+                    pointer: false,
+                })
+            }
+            Err(report) => Reply::Report(report),
+        }
+    }
+
+    /// Stores the low bytes of a number.
+    fn store(&mut self, p: u64, reach: &Reach, kind: AccessKind, bits: u64) -> Reply
+        ensures answer { result ≡ access (live_by self.old) p reach.now kind (Stores (Number bits)) }
+        ensures next { (worker number : ℕ) (h : Words) → StandsFor self.old h
+            → StandsFor self.new (next worker number h (Call.Store p reach.now kind (record { bits = bits; pointer = false })) result) }
+        ensures suits { suits_store result ≡ true }
+        ensures elements { (types : List CType) → KnowsElements types self.old → KnowsElements types self.new }
+        ensures region { self.new.region ≡ self.old.region }
+    {
+        match self.located(p, reach, kind) {
+            Ok(at) => {
+                self.slots
+                    .put_number(at.slot, at.offset as usize, width_of(kind) as usize, bits);
+                Reply::Done
+            }
+            Err(report) => Reply::Report(report),
+        }
+    }
+
+    /// Answers a call of this region, which is no addition and no access to a pointer. An allocation takes the slot that was
+    /// given back last, or else the next that was never taken. Memory may be wanted for an allocation and a check alone.
+    pub fn step(&mut self, types: &TypeTable, call: &Call) -> Result<Reply, AllocError>
+        requires region { region_for call.now ≡ Some self.old.region }
+        requires fits { fits_call call.now ≡ true }
+        requires numbers { moves_numbers call.now ≡ true }
+        requires types { KnowsTypes types.now call.now }
+        requires elements { KnowsElements types.now self.old }
+        ensures answers { IfOk result (λ reply. (h : Words) → StandsFor self.old h
+            → Answers (preference_of types.now) h self.old.region call.now reply) }
+        ensures next { IfOk result (λ reply. (worker number : ℕ) (h : Words) → StandsFor self.old h
+            → StandsFor self.new (next worker number h call.now reply)) }
+        ensures suits { IfOk result (λ reply. suits_call call.now reply ≡ true) }
+        ensures elements { KnowsElements types.now self.new }
+        ensures region { self.new.region ≡ self.old.region }
+        ensures unchanged { OnErr result (self.new ≡ self.old) }
+        ensures memory { OnErr result (takes_memory call.now ≡ true) }
+    {
+        match *call {
+            Call::Alloc { elem, size, fixed } => self.alloc(elem, size, fixed),
+            Call::Free { p, fixed } => Ok(self.free(p, fixed)),
+            Call::Check { p, want } => self.check(types, p, want),
+            Call::Load { p, reach, kind } => Ok(self.load(p, &reach, kind)),
+            Call::Store {
+                p,
+                reach,
+                kind,
+                value,
+            } => Ok(self.store(p, &reach, kind, value.bits)),
+            Call::Add { .. } => unreachable!(),
+        }
+    }
+}
