@@ -1,0 +1,4 @@
+pub mod Pushed
+mod Stamped
+mod Places
+mod Keeping

@@ -1,0 +1,135 @@
+-- The heap of a region, and the regions of calls.
+use Rattle.std.proofs.Common.{◌≡◌, ◌≢◌, ℕ, zero, suc, ◌+◌, ◌-◌, ◌<◌, ◌≤◌, Bool, true, false, cond, List, [], ◌∷◌, ◌++◌, length, get_or, set, Option, Some, None, Result, Ok, Err, IfOk, refl, sym, ap, ◌∙◌, subst, arith, unwrap_or, ◌⊎◌, inl, inr, get_or-set_same, get_or-set_other}
+use Rattle.std.proofs.Math.ListN.{get_or-append}
+use Rattle.std.proofs.Math.Seq.{get_or-append_seam}
+use Rattle.std.proofs.lemmas.List.{get_or_default}
+use Rattle.std.proofs.lemmas.Bool.{cases_eq}
+use Rattle.c_types.specs.declared.table.CType.{CType}
+use Rattle.heap_model.specs.Answers.{Words, next}
+use Rattle.heap_model.specs.Forms.{suits_call}
+use Rattle.heap_model.specs.Legal.{Answers}
+use Rattle.heap_model.specs.Preference.{preference_of}
+use Rattle.heap_model.specs.State.{State, StandsFor}
+use Rattle.heap_model.specs.declared.calls.Reply.{Reply}
+use Rattle.typed_heap.specs.Takes.{KnowsElements}
+use Rattle.region_heaps.specs.Regions.{IsEmptyHeap, Steps, heap_of, no_heap}
+use Rattle.std.proofs.lemmas.Bool.{and_parts, leb-true, ltb-true}
+use Rattle.std.proofs.lemmas.Option.{same_Some, none-some}
+use Rattle.heap_model.specs.Forms.{region_for, region_or_one}
+use Rattle.heap_model.specs.Regions.{class_of, region_of, address_of, sizes}
+use Rattle.heap_model.specs.declared.calls.Call.{Call}
+use Rattle.heap_model.specs.declared.calls.Call.TheVariants.{Alloc, Free, Check, Load, Store, Add}
+
+-- a region from 1 to 27
+abbrev pub IsRegion : ℕ → Type 0
+IsRegion r = (1 ≤ r) × (r ≤ 27)
+
+chosen : (b : Bool) (x r : ℕ) → cond b (Some x) None ≡ Some r → (b ≡ true) × (x ≡ r)
+chosen true x r e = (refl, same_Some _ _ e)
+chosen false x r e = absurd (none-some _ e)
+
+region_of-range : (o : Option ℕ) (r : ℕ) → ((q : ℕ) → o ≡ Some q → IsRegion q) → Some (unwrap_or o 1) ≡ Some r → IsRegion r
+region_of-range None r range e = subst IsRegion (same_Some _ _ e) (omega arith, omega arith)
+region_of-range (Some q) r range e = subst IsRegion (same_Some _ _ e) (range q refl)
+
+address-range : (address r : ℕ) → region_of address ≡ Some r → IsRegion r
+unfolding region_of
+address-range address r e =
+    let is = chosen _ _ r e in
+    let both = and_parts _ _ is.0 in
+    subst IsRegion is.1 (ltb-true _ _ both.0, leb-true _ _ both.1)
+
+region_or_one-range : (address r : ℕ) → region_or_one address ≡ Some r → IsRegion r
+region_or_one-range address r e = region_of-range (region_of address) r (address-range address) e
+
+class_of-range : (size r : ℕ) → class_of size ≡ Some r → IsRegion r
+unfolding class_of sizes
+class_of-range size r e =
+    let is = chosen _ _ r e in
+    let below = ltb-true _ _ is.0 in
+    (omega (arith, is.1), omega (arith, is.1, below))
+
+pub region_for-range : (call : Call) (r : ℕ) → region_for call ≡ Some r → IsRegion r
+unfolding region_for
+region_for-range (Alloc elem size fixed) r e = class_of-range size r e
+region_for-range (Free p fixed) r e = region_or_one-range (address_of p) r e
+region_for-range (Check p want) r e = region_or_one-range (address_of p) r e
+region_for-range (Load p reach kind) r e = region_or_one-range reach.lo r e
+region_for-range (Store p reach kind v) r e = region_or_one-range reach.lo r e
+region_for-range (Add p reach kind n) r e = region_or_one-range reach.lo r e
+
+-- ---- one heap more
+
+heap_of-push : (heaps : List State) (heap : State) (r : ℕ) → 1 ≤ r → r ≤ length heaps → heap_of (heaps ++ heap ∷ []) r ≡ heap_of heaps r
+heap_of-push heaps heap zero low high = absurd (omega arith)
+heap_of-push heaps heap (suc n) low high = get_or-append heaps (heap ∷ []) no_heap n (omega arith)
+
+heap_of-last : (heaps : List State) (heap : State) (r : ℕ) → length heaps + 1 ≡ r → heap_of (heaps ++ heap ∷ []) r ≡ heap
+heap_of-last heaps heap zero e = absurd (omega arith)
+heap_of-last heaps heap (suc n) e =
+    let n_is : length heaps ≡ n = omega arith in
+    let P : ℕ → Type 0 = λ k. get_or (heaps ++ heap ∷ []) k no_heap ≡ heap in
+    subst P n_is (get_or-append_seam heaps heap [] no_heap)
+
+pub each-push : (heaps : List State) (heap : State) (r : ℕ) → length heaps + 1 ≡ r
+    → ((q : ℕ) → 1 ≤ q → q < r → IsEmptyHeap (heap_of heaps q) q) → IsEmptyHeap heap r
+    → (q : ℕ) → 1 ≤ q → q < r + 1 → IsEmptyHeap (heap_of (heaps ++ heap ∷ []) q) q
+each-push heaps heap r count below here q low high = go (cases_eq q r)
+  where
+    go : (q ≡ r) ⊎ (q ≡ r → ⊥) → IsEmptyHeap (heap_of (heaps ++ heap ∷ []) q) q
+    go (inl same) =
+        let P : ℕ → Type 0 = λ k. IsEmptyHeap (heap_of (heaps ++ heap ∷ []) k) k in
+        subst P (sym same) (subst (λ h. IsEmptyHeap h r) (sym (heap_of-last heaps heap r count)) here)
+    go (inr other) =
+        let apart : q ≢ r = other in
+        let below_r : q < r = omega arith in
+        let high' : q ≤ length heaps = omega arith in
+        subst (λ h. IsEmptyHeap h q) (sym (heap_of-push heaps heap q low high')) (below q low below_r)
+
+-- ---- one heap changed
+
+pub heap_of-index : (heaps : List State) (r : ℕ) (d : State) → 1 ≤ r → r ≤ length heaps → get_or heaps (r - 1) d ≡ heap_of heaps r
+heap_of-index heaps zero d low high = absurd (omega arith)
+heap_of-index heaps (suc n) d low high =
+    let place : suc n - 1 ≡ n = omega arith in
+    ap (λ k. get_or heaps k d) place ∙ get_or_default heaps n d no_heap (omega arith)
+
+heap_of-set : (heaps : List State) (r : ℕ) (heap : State) → 1 ≤ r → r ≤ length heaps → heap_of (set heaps (r - 1) heap) r ≡ heap
+heap_of-set heaps zero heap low high = absurd (omega arith)
+heap_of-set heaps (suc n) heap low high =
+    let place : suc n - 1 ≡ n = omega arith in
+    ap (λ k. get_or (set heaps k heap) n no_heap) place ∙ get_or-set_same heaps n heap no_heap (omega arith)
+
+heap_of-set_other : (heaps : List State) (r q : ℕ) (heap : State) → 1 ≤ r → q ≢ r → heap_of (set heaps (r - 1) heap) q ≡ heap_of heaps q
+heap_of-set_other heaps r zero heap low apart = refl
+heap_of-set_other heaps r (suc m) heap low apart =
+    let other : m ≢ r - 1 = omega arith in
+    get_or-set_other heaps (r - 1) m heap no_heap other
+
+-- what the heap of a region does, as a step of all heaps
+module _ (types : List CType) (heaps : List State) (r : ℕ) (call : Call) (was now : State)
+    (low : 1 ≤ r) (high : r ≤ length heaps) (was_is : was ≡ heap_of heaps r) (region_is : (heap_of heaps r).region ≡ r)
+    (elements : KnowsElements types now) (same_region : now.region ≡ was.region) where
+  here : heap_of (set heaps (r - 1) now) r ≡ now
+  here = heap_of-set heaps r now low high
+
+  region_was : was.region ≡ r
+  region_was = ap (λ h. h.region) was_is ∙ region_is
+
+  stood : (h : Words) → StandsFor (heap_of heaps r) h → StandsFor was h
+  stood h stands = subst (λ s. StandsFor s h) (sym was_is) stands
+
+  pub steps-from : {E : Type 0} (result : Result Reply E)
+      → IfOk result (λ reply. (h : Words) → StandsFor was h → Answers (preference_of types) h was.region call reply)
+      → IfOk result (λ reply. (worker number : ℕ) (h : Words) → StandsFor was h → StandsFor now (next worker number h call reply))
+      → IfOk result (λ reply. suits_call call reply ≡ true)
+      → IfOk result (λ reply. Steps types heaps (set heaps (r - 1) now) r call reply)
+  steps-from (Err e) answers nexts suits = tt
+  steps-from (Ok reply) answers nexts suits = record {
+    others = λ q apart. heap_of-set_other heaps r q now low apart;
+    region_is = ap (λ h. h.region) here ∙ same_region ∙ region_was;
+    answers = λ h stands. subst (λ q. Answers (preference_of types) h q call reply) region_was (answers h (stood h stands));
+    next = λ worker number h stands. subst (λ s. StandsFor s (next worker number h call reply)) (sym here) (nexts worker number h (stood h stands));
+    elements = subst (KnowsElements types) (sym here) elements;
+    suits = suits;
+  }

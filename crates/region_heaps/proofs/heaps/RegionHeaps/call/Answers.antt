@@ -1,0 +1,77 @@
+use Rattle.std.proofs.Common.{◌≡◌, ◌+◌, List, [], ◌∷◌, ◌++◌, length, Some, sym, ap, ◌∙◌, subst, arith}
+use Rattle.std.proofs.lemmas.List.{with_items_is}
+use Rattle.c_types.specs.declared.table.CType.{CType}
+use Rattle.c_types.specs.Table.{basic_types}
+use Rattle.heap_model.specs.Forms.{region_for}
+use Rattle.heap_model.specs.State.{State}
+use Rattle.heap_model.specs.declared.calls.Entry.{Entry}
+use Rattle.typed_heap.specs.Takes.{KnowsElements}
+use Rattle.region_heaps.specs.Kept.{Keeps}
+use Rattle.region_heaps.specs.Numbers.{count_of}
+use Rattle.region_heaps.specs.Regions.{Steps, heap_of}
+use Rattle.region_heaps.proofs.Keeping.{Keeps-push}
+use Rattle.region_heaps.proofs.Places.{region_for-range}
+use Rattle.region_heaps.proofs.Pushed.{own-le}
+use Rattle.region_heaps.proofs.heaps.RegionHeaps.call.Goals as goal
+
+pub step-requires-clause-low : goal.step-requires-clause-low
+step-requires-clause-low c = (region_for-range c.args.call.now c.unwrap-region.result (sym c.region_for.ensures ∙ c.unwrap-region.ensures)).0
+
+pub step-requires-clause-high : goal.step-requires-clause-high
+step-requires-clause-high c =
+    let range = region_for-range c.args.call.now c.unwrap-region.result (sym c.region_for.ensures ∙ c.unwrap-region.ensures) in
+    omega (arith, range.1, ap length c.deref_mut.ensures.value, c.self.invariant.keeps.count)
+
+pub step-requires-clause-of_region : goal.step-requires-clause-of_region
+step-requires-clause-of_region c =
+    let region = c.unwrap-region.result in
+    let range = region_for-range c.args.call.now region (sym c.region_for.ensures ∙ c.unwrap-region.ensures) in
+    let P : List State → Type 0 = λ heaps. (heap_of heaps region).region ≡ region in
+    subst P (sym c.deref_mut.ensures.value) (c.self.invariant.keeps.each region range.0 range.1).region_is
+
+pub step-requires-clause-elements : goal.step-requires-clause-elements
+step-requires-clause-elements c =
+    let region = c.unwrap-region.result in
+    let range = region_for-range c.args.call.now region (sym c.region_for.ensures ∙ c.unwrap-region.ensures) in
+    let P : List State → Type 0 = λ heaps. KnowsElements c.self.inside.types (heap_of heaps region) in
+    let Q : List CType → Type 0 = λ types. KnowsElements types (heap_of c.self.inside.heaps.items region) in
+    subst P (sym c.deref_mut.ensures.value) (subst Q (sym c.self.invariant.types) (c.self.invariant.keeps.each region range.0 range.1).elements)
+
+pub count-requires-clause-room : goal.count-requires-clause-room
+count-requires-clause-room c =
+    let same : count_of c.next.new.self c.args.worker ≡ count_of c.self.inside.numbers c.args.worker = c.next.ensures.counts c.args.worker in
+    let own = c.self.invariant.keeps.counts_are c.args.worker in
+    let stamp = c.in_ok-stamp.ensures.stamp in
+    let small = c.in_ok-stamp.ensures.small in
+    let entries = ap length c.room.ensures.entries in
+    omega (arith, same, own, own-le c.self.inside.history.entries c.args.worker, stamp, small, entries)
+
+pub invariant_of-self-2 : goal.invariant_of-self-2
+invariant_of-self-2 c =
+    let region = c.unwrap-region.result in
+    let home : region_for c.args.call.now ≡ Some region = sym c.region_for.ensures ∙ c.unwrap-region.ensures in
+    let entry : Entry =
+    record { worker = c.args.worker; number = c.in_ok-number.number; stamp = c.in_ok-stamp.stamp; region = region; call = c.args.call.now; reply = c.in_ok-reply.reply } in
+    let heaps = c.self.inside.heaps.items in
+    let history = c.self.inside.history.entries in
+    let counts = count_of c.self.inside.numbers in
+    let counts' = count_of c.count.new.self in
+    let counted = c.next.ensures.counts in
+    let P : List State → Type 0 = λ old. Steps c.self.inside.types old c.step.new.heaps region c.args.call.now c.in_ok-reply.reply in
+    let Q : List CType → Type 0 = λ types. Steps types heaps c.step.new.heaps region c.args.call.now c.in_ok-reply.reply in
+    let steps = subst Q c.self.invariant.types (subst P c.deref_mut.ensures.value c.in_ok-reply.ensures.steps) in
+    let R : List Entry → Type 0 = λ es. Keeps basic_types c.step.new.heaps counts' es in
+    let pushed : c.push.new.self.entries ≡ history ++ entry ∷ [] = c.push.ensures.entries ∙ ap (λ es. es ++ entry ∷ []) c.room.ensures.entries in
+    let S : List State → Type 0 = λ new. Keeps basic_types new counts' c.push.new.self.entries in
+    let written = with_items_is c.self.inside.heaps c.step.new.heaps (c.step.auto.heaps ∙ c.deref_mut.ensures.len) in
+    record {
+      types = c.self.invariant.types;
+      keeps =
+          subst S (sym written)
+          (subst R (sym pushed)
+          (Keeps-push basic_types heaps c.step.new.heaps history entry home c.requires.fits steps counts counts'
+          (c.count.ensures.own ∙ ap (λ n. n + 1) (counted c.args.worker))
+          (λ w apart. c.count.ensures.others w apart ∙ counted w)
+          c.self.invariant.keeps (c.step.auto.heaps ∙ ap length c.deref_mut.ensures.value) c.in_ok-number.ensures.number
+          (c.in_ok-stamp.ensures.stamp ∙ ap (λ es. length es + 1) c.room.ensures.entries)));
+    }

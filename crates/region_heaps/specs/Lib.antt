@@ -1,0 +1,4 @@
+pub mod Numbers
+pub mod Regions
+pub mod Entries
+pub mod Kept
