@@ -1,5 +1,14 @@
-pub mod Decimals
+pub mod Runs
 pub mod Tables
-pub mod Scans
+pub mod Classes
+pub mod Units
+pub mod Numerals
+pub mod Fronts
+pub mod CommentEnds
+pub mod Longest
 pub mod Readings
 pub mod Steps
+pub mod Joins
+pub mod Decodings
+pub mod Slices
+pub mod StringTokens

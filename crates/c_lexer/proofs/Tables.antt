@@ -6,7 +6,7 @@ use Rattle.std.proofs.lemmas.List.{take-append-le, take-append-drop}
 use Rattle.std.proofs.lemmas.Slice.Eq.{bytes_eq-Decides}
 use Rattle.std.specs.Str.{bytes_eq}
 use Rattle.c_tokens.specs.Words.{Among}
-use Rattle.c_lexer.specs.Words.{Text}
+use Rattle.c_lexer.specs.Bytes.{Text}
 use Rattle.c_lexer.specs.Scan.{begins, first_match}
 
 pub bytes_same : (a b : Text) → bytes_eq a b ≡ true → a ≡ b

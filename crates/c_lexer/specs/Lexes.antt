@@ -1,43 +1,81 @@
--- A text is cut into tokens, each the longest that begins at its place (C11 6.4p4).
-use Rattle.std.specs.Prelude.{◌≡◌, Bool, true, false, ℕ, zero, suc, ◌+◌, ◌≤◌, List, [], ◌∷◌, ◌++◌, length}
+-- A text is cut into lexemes, each the longest that begins at its place (C11 6.4p4).
+use Rattle.std.specs.Prelude.{◌≡◌, Bool, true, false, ℕ, zero, suc, ◌+◌, ◌-◌, ◌<◌, ◌≤◌, List, [], ◌∷◌, ◌++◌, length, get_or}
 use Rattle.c_tokens.specs.declared.kind.Kind.{Kind}
 use Rattle.c_tokens.specs.declared.token.Token.{Token}
-use Rattle.c_lexer.specs.Words.{Text, Spells, is_blank, is_read}
+use Rattle.c_lexer.specs.declared.error.LexError.{LexError}
+use Rattle.c_lexer.specs.declared.error.LexError.TheVariants as error
+use Rattle.c_lexer.specs.declared.joined.Place.{Place}
+use Rattle.c_lexer.specs.declared.lexeme.Fault.{Fault}
+use Rattle.c_lexer.specs.declared.lexeme.Fault.TheVariants as fault
+use Rattle.c_lexer.specs.declared.lexeme.Lexeme.{Lexeme}
+use Rattle.c_lexer.specs.declared.lexeme.Lexeme.TheVariants.{Sound, Gap, Faulty}
+use Rattle.c_lexer.specs.Bytes.{Text, is_line_end}
+use Rattle.c_lexer.specs.Joined.{joined_bytes, joined_places}
+use Rattle.c_lexer.specs.Words.{Spells}
 
--- the longest token at the front of the text
-pub record IsFirst (s word rest : Text) (kind : Kind) : Type 0 where
+-- the longest lexeme at the front of the text
+pub record IsFirst (s word rest : Text) (lexeme : Lexeme) : Type 0 where
   pub text : s ≡ word ++ rest
-  pub spells : Spells word kind
-  pub longest : (other after : Text) (otherwise : Kind) → s ≡ other ++ after → Spells other otherwise → length other ≤ length word
+  pub spells : Spells word lexeme
+  pub longest : (other after : Text) (otherwise : Lexeme) → s ≡ other ++ after → Spells other otherwise → length other ≤ length word
 
--- no token begins at the front of the text
+-- no lexeme begins at the front of the text
 abbrev pub HasNone : Text → Type 0
-HasNone s = (word after : Text) (kind : Kind) → s ≡ word ++ after → Spells word kind → ⊥
+HasNone s = (word after : Text) (lexeme : Lexeme) → s ≡ word ++ after → Spells word lexeme → ⊥
 
--- `Lexes room at line first s ts`: the text `s`, which begins at `at` on the line `line`, is these tokens, at most `room`
--- of them, and blanks; `first` says that no token stands before it on its line
-pub data Lexes : ℕ → ℕ → ℕ → Bool → Text → List Token → Type 0 where
-  end : {room at line : ℕ} {first : Bool} → Lexes room at line first [] []
-  space : {room at line : ℕ} {first : Bool} {s : Text} {ts : List Token} →
-      Lexes room (at + 1) line first s ts → Lexes room at line first (32 ∷ s) ts
-  newline : {room at line : ℕ} {first : Bool} {s : Text} {ts : List Token} →
-      Lexes room (at + 1) (line + 1) true s ts → Lexes room at line first (10 ∷ s) ts
-  token : {room at line : ℕ} {first : Bool} {s rest : Text} {ts : List Token} (word : Text) (kind : Kind) →
-      IsFirst s word rest kind → is_read word kind ≡ true → Lexes room (at + length word) line false rest ts →
-      Lexes (suc room) at line first s (record { kind = kind; start = at; end = at + length word; line = line; first = first } ∷ ts)
+-- the place of the byte at this index
+abbrev pub place_at : List Place → ℕ → Place
+place_at places at = get_or places at (record { at = 0; line = 0 })
 
--- `Faults room at s place`: `place` is the first place of the text `s`, which begins at `at`, from which it has no tokens
-pub data Faults : ℕ → ℕ → Text → ℕ → Type 0 where
-  -- a token too many, or no token at all
-  full : {at b : ℕ} {s : Text} → is_blank b ≡ false → Faults zero at (b ∷ s) at
-  -- no token begins here
-  unknown : {room at b : ℕ} {s : Text} → is_blank b ≡ false → HasNone (b ∷ s) → Faults room at (b ∷ s) at
-  -- a number that is not read
-  unread : {room at : ℕ} {s rest : Text} (word : Text) (kind : Kind) → IsFirst s word rest kind → is_read word kind ≡ false → Faults room at s at
-  space : {room at place : ℕ} {s : Text} → Faults room (at + 1) s place → Faults room at (32 ∷ s) place
-  newline : {room at place : ℕ} {s : Text} → Faults room (at + 1) s place → Faults room at (10 ∷ s) place
-  token : {room at place : ℕ} {s rest : Text} (word : Text) (kind : Kind) →
-      IsFirst s word rest kind → is_read word kind ≡ true → Faults room (at + length word) rest place → Faults (suc room) at s place
+-- each place is below this one
+abbrev pub AreSmall : ℕ → List Place → Type 0
+AreSmall high places = (k : ℕ) → k < length places → (place_at places k).at < high
+
+-- the token of the bytes from the index `at` on, `len` of them
+abbrev pub token_at : List Place → Kind → ℕ → ℕ → Bool → Token
+token_at places kind at len first = record {
+  kind = kind;
+  start = (place_at places at).at;
+  end = (place_at places (at + len - 1)).at + 1;
+  line = (place_at places at).line;
+  first = first;
+}
+
+-- the refusal of a fault there
+abbrev pub refusal : Fault → ℕ → LexError
+refusal fault.OpenComment at = error.OpenComment at
+refusal fault.OpenString at = error.OpenString at
+refusal fault.NumberTooLarge at = error.NumberTooLarge at
+refusal fault.BadEscape at = error.BadEscape at
+
+-- `Lexes places room at first s ts`: the bytes `s` from the index `at` on are these tokens, at most `room` of them, and what
+-- separates them; `first` says that no token stands before them on their line. A line end within a comment ends no line.
+pub data Lexes (places : List Place) : ℕ → ℕ → Bool → Text → List Token → Type 0 where
+  end : {room at : ℕ} {first : Bool} → Lexes places room at first [] []
+  line : {room at : ℕ} {first : Bool} {s : Text} {ts : List Token} →
+      Lexes places room (at + 1) true s ts → Lexes places room at first (10 ∷ s) ts
+  gap : {room at : ℕ} {first : Bool} {s rest : Text} {ts : List Token} (word : Text) →
+      IsFirst s word rest Gap → Lexes places room (at + length word) first rest ts → Lexes places room at first s ts
+  token : {room at : ℕ} {first : Bool} {s rest : Text} {ts : List Token} (word : Text) (kind : Kind) →
+      IsFirst s word rest (Sound kind) → Lexes places room (at + length word) false rest ts →
+      Lexes places (suc room) at first s (token_at places kind at (length word) first ∷ ts)
+
+-- `Refuses places room at s e`: the bytes `s` from the index `at` on have no such tokens, and `e` is the first reason in the text
+pub data Refuses (places : List Place) : ℕ → ℕ → Text → LexError → Type 0 where
+  -- no lexeme begins here
+  unknown : {room at b : ℕ} {s : Text} → is_line_end b ≡ false → HasNone (b ∷ s) →
+      Refuses places room at (b ∷ s) (error.BadByte (place_at places at).at)
+  faulty : {room at : ℕ} {s rest : Text} (word : Text) (fault : Fault) →
+      IsFirst s word rest (Faulty fault) → Refuses places room at s (refusal fault (place_at places at).at)
+  -- a token too many
+  full : {at : ℕ} {s rest : Text} (word : Text) (kind : Kind) →
+      IsFirst s word rest (Sound kind) → Refuses places zero at s (error.TooManyTokens (place_at places at).at)
+  line : {room at : ℕ} {s : Text} {e : LexError} →
+      Refuses places room (at + 1) s e → Refuses places room at (10 ∷ s) e
+  gap : {room at : ℕ} {s rest : Text} {e : LexError} (word : Text) →
+      IsFirst s word rest Gap → Refuses places room (at + length word) rest e → Refuses places room at s e
+  token : {room at : ℕ} {s rest : Text} {e : LexError} (word : Text) (kind : Kind) →
+      IsFirst s word rest (Sound kind) → Refuses places room (at + length word) rest e → Refuses places (suc room) at s e
 
 -- a text has at most so many tokens
 abbrev pub max_tokens : ℕ
@@ -45,8 +83,8 @@ max_tokens = 200000
 
 -- the tokens of a whole text
 abbrev pub Tokens : Text → List Token → Type 0
-Tokens text ts = Lexes max_tokens 0 1 true text ts
+Tokens text ts = Lexes (joined_places text) max_tokens 0 true (joined_bytes text) ts
 
--- the first place from which a whole text has no tokens
-abbrev pub IsFirstFault : Text → ℕ → Type 0
-IsFirstFault text place = Faults max_tokens 0 text place
+-- why a whole text has none: the first reason in it
+abbrev pub IsRefused : Text → LexError → Type 0
+IsRefused text e = Refuses (joined_places text) max_tokens 0 (joined_bytes text) e

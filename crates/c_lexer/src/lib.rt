@@ -2,12 +2,20 @@
 #![tactic(auto)]
 
 mod bytes;
+mod comments;
 mod error;
+mod escapes;
+mod front;
+mod joined;
+mod lexeme;
 mod lexer;
 mod marks;
 mod numbers;
+mod quotes;
+mod strings;
 mod words;
 
 pub use c_tokens::{Keyword, Kind, Mark, NumType, Token};
 pub use error::LexError;
 pub use lexer::{MAX_TEXT, law_tokens, lex};
+pub use strings::{law_strings, text_bytes};

@@ -1,54 +1,238 @@
-//! Decimal numbers (C11 6.4.4.1).
+//! Constants of whole numbers (C11 6.4.4.1).
 
-ghost use Rattle.std.specs.Prelude.{◌≡◌, ◌≤◌, ◌^◌, length, min, Some, None, if◌then◌else◌};
-ghost use Rattle.std.specs.List.{prefix_len};
-ghost use Rattle.c_lexer.specs.Words as words;
-ghost use Rattle.c_tokens.specs.declared.kind.Kind.TheVariants.{Number};
-ghost use Rattle.c_tokens.specs.declared.kind.NumType.TheVariants.{Int};
+ghost use Rattle.std.specs.Prelude.{◌≡◌, ◌≤◌, ◌<◌, ◌^◌, true, length, drop, Some, None, IfSome, nat_lt, if◌then◌else◌};
+ghost use Rattle.c_lexer.specs.Bytes.{valued, first_passes, is_digit as decimal_digit};
+ghost use Rattle.c_lexer.specs.Numbers as numbers;
+ghost use Rattle.c_lexer.specs.Scan as spec;
 
-use crate::bytes::is_digit;
+use crate::bytes::{digit_value, is_digit, is_hexadecimal, is_octal, is_x};
+use crate::lexeme::{Fault, Lexeme};
+use crate::marks::begins;
 use c_tokens::{Kind, NumType};
 
-/// The first number that an `int` cannot have.
-const TOO_LARGE: u64 = 2_147_483_648;
-
-/// The length of the digits at the front.
-pub fn digits_len(s: &[u8]) -> usize
-    ensures value { result ≡ prefix_len words.is_digit s.now }
-    ensures within { result ≤ length s.now }
-{
-    s.iter().take_while(|b| is_digit(**b)).count()
+/// How a constant is written.
+#[derive(Clone, Copy, Debug, PartialEq, Eq)]
+pub enum Radix {
+    Decimal,
+    Octal,
+    Hexadecimal,
 }
 
-/// The value of the digits, cut at the first number that is too large.
-fn value(digits: &[u8]) -> u64
-    ensures { result ≡ min (words.decimal 0 digits.now) (2 ^ 31) }
+/// What the letters behind the digits say of the type; `long long` is `long`.
+#[derive(Clone, Copy, Debug, PartialEq, Eq)]
+pub enum Suffix {
+    Plain,
+    Unsigned,
+    Long,
+    UnsignedLong,
+}
+
+/// How the constant at the front is written.
+fn radix_at(s: &[u8]) -> Radix
+    ensures { result ≡ spec.radix_at s.now }
+{
+    if s.first() != Some(&b'0') {
+        Radix::Decimal
+    } else if has_hexadecimal_prefix(&s[1..]) {
+        Radix::Hexadecimal
+    } else {
+        Radix::Octal
+    }
+}
+
+fn has_hexadecimal_prefix(s: &[u8]) -> bool
+    ensures { result ≡ spec.is_hexadecimal_prefix s.now }
+{
+    s.len() > 1 && is_x(s[0]) && is_hexadecimal(s[1])
+}
+
+fn base_of(radix: Radix) -> u64
+    ensures { result ≡ spec.base_of radix }
+{
+    match radix {
+        Radix::Decimal => 10,
+        Radix::Octal => 8,
+        Radix::Hexadecimal => 16,
+    }
+}
+
+fn is_digit_of(radix: Radix, b: u8) -> bool
+    ensures { result ≡ spec.is_digit_of radix b }
+{
+    match radix {
+        Radix::Decimal => is_digit(b),
+        Radix::Octal => is_octal(b),
+        Radix::Hexadecimal => is_hexadecimal(b),
+    }
+}
+
+/// How many bytes stand before the digits.
+fn prefix_of(radix: Radix) -> usize
+    ensures { result ≡ spec.prefix_of radix }
+{
+    match radix {
+        Radix::Hexadecimal => 2,
+        _ => 0,
+    }
+}
+
+/// How many digits stand at the front.
+fn digits_len(radix: Radix, s: &[u8]) -> usize
+    ensures value { result ≡ spec.digits_len radix s.now }
+    ensures within { result ≤ length s.now }
+{
+    s.iter().take_while(|b| is_digit_of(radix, **b)).count()
+}
+
+/// The number that the digits write, if 64 bits hold it.
+pub fn value_of(base: u64, digits: &[u8]) -> Option<u64>
+    requires { 0 < base }
+    ensures { result ≡ (if nat_lt (valued base 0 digits.now) (2 ^ 64) then Some (valued base 0 digits.now) else None) }
 {
     let mut n: u64 = 0;
     for b in digits {
-        n = (10 * n + u64::from(b.saturating_sub(b'0'))).min(TOO_LARGE);
+        let Some(shifted) = n.checked_mul(base) else {
+            return None;
+        };
+        let Some(more) = shifted.checked_add(u64::from(digit_value(*b))) else {
+            return None;
+        };
+        n = more;
     }
-    n
+    Some(n)
 }
 
-/// Whether no zero stands before other digits.
-fn is_unpadded(digits: &[u8]) -> bool
-    ensures { result ≡ words.is_unpadded digits.now }
+/// The suffix at the front with its length.
+fn suffix_at(s: &[u8]) -> (Suffix, usize)
+    ensures value { result ≡ spec.suffix_at s.now }
+    ensures short { result.1 ≤ 3 }
 {
-    match digits {
-        [first, _, ..] => *first != b'0',
-        _ => true,
+    match unsigned_long_of_three(s) {
+        Some(found) => found,
+        None => (Suffix::Plain, 0),
     }
 }
 
-/// The number that the digits write, if it is read.
-pub fn number(digits: &[u8]) -> Option<Kind>
-    ensures { let kind = Number (words.decimal 0 digits.now) Int in result ≡ (if words.is_read digits.now kind then Some kind else None) }
+fn unsigned_long_of_three(s: &[u8]) -> Option<(Suffix, usize)>
+    ensures value { result ≡ spec.first_match numbers.suffixes s.now }
+    ensures short { IfSome result (λ found. found.1 ≤ 3) }
 {
-    let n = value(digits);
-    if is_unpadded(digits) && n < TOO_LARGE {
-        Some(Kind::Number(n, NumType::Int))
+    if begins(s, b"ull") || begins(s, b"uLL") || begins(s, b"Ull") || begins(s, b"ULL") {
+        Some((Suffix::UnsignedLong, 3))
+    } else if begins(s, b"llu") || begins(s, b"llU") || begins(s, b"LLu") || begins(s, b"LLU") {
+        Some((Suffix::UnsignedLong, 3))
     } else {
-        None
+        unsigned_long_of_two(s)
     }
+}
+
+fn unsigned_long_of_two(s: &[u8]) -> Option<(Suffix, usize)>
+    ensures value { result ≡ spec.first_match (drop 8 numbers.suffixes) s.now }
+    ensures short { IfSome result (λ found. found.1 ≤ 2) }
+{
+    if begins(s, b"ul") || begins(s, b"uL") || begins(s, b"Ul") || begins(s, b"UL") {
+        Some((Suffix::UnsignedLong, 2))
+    } else if begins(s, b"lu") || begins(s, b"lU") || begins(s, b"Lu") || begins(s, b"LU") {
+        Some((Suffix::UnsignedLong, 2))
+    } else {
+        shorter_suffix(s)
+    }
+}
+
+fn shorter_suffix(s: &[u8]) -> Option<(Suffix, usize)>
+    ensures value { result ≡ spec.first_match (drop 16 numbers.suffixes) s.now }
+    ensures short { IfSome result (λ found. found.1 ≤ 2) }
+{
+    if begins(s, b"ll") || begins(s, b"LL") {
+        Some((Suffix::Long, 2))
+    } else if begins(s, b"u") || begins(s, b"U") {
+        Some((Suffix::Unsigned, 1))
+    } else if begins(s, b"l") || begins(s, b"L") {
+        Some((Suffix::Long, 1))
+    } else {
+        Some((Suffix::Plain, 0))
+    }
+}
+
+/// Whether the type can represent the value.
+fn can_hold(kind: NumType, value: u64) -> bool
+    ensures { result ≡ numbers.can_hold kind value }
+{
+    match kind {
+        NumType::Int => value < 0x8000_0000,
+        NumType::UInt => value < 0x1_0000_0000,
+        NumType::Long => value < 0x8000_0000_0000_0000,
+        NumType::ULong => true,
+    }
+}
+
+/// The types that a constant may have, in the order in which they are tried.
+fn types_for(radix: Radix, suffix: Suffix) -> &'static [NumType]
+    ensures { result.now ≡ numbers.types_for radix suffix }
+{
+    match (radix, suffix) {
+        (Radix::Decimal, Suffix::Plain) => &[NumType::Int, NumType::Long],
+        (_, Suffix::Plain) => &[NumType::Int, NumType::UInt, NumType::Long, NumType::ULong],
+        (Radix::Decimal, Suffix::Long) => &[NumType::Long],
+        (_, Suffix::Long) => &[NumType::Long, NumType::ULong],
+        (_, Suffix::Unsigned) => &[NumType::UInt, NumType::ULong],
+        (_, Suffix::UnsignedLong) => &[NumType::ULong],
+    }
+}
+
+/// The first of the types that can represent the value.
+fn first_type(value: u64, types: &[NumType]) -> Option<NumType>
+    ensures { result ≡ numbers.first_type value types.now }
+{
+    for kind in types {
+        if can_hold(*kind, value) {
+            return Some(*kind);
+        }
+    }
+    None
+}
+
+/// The constant with its type, or too large for each type that it may have.
+fn typed(value: u64, types: &[NumType]) -> Lexeme
+    ensures { result ≡ numbers.typed_number value (numbers.first_type value types.now) }
+{
+    match first_type(value, types) {
+        Some(kind) => Lexeme::Sound(Kind::Number(value, kind)),
+        None => Lexeme::Faulty(Fault::NumberTooLarge),
+    }
+}
+
+/// The constant of these digits.
+fn constant(radix: Radix, suffix: Suffix, digits: &[u8]) -> Lexeme
+    ensures { result ≡ numbers.number_lexeme radix suffix (valued (spec.base_of radix) 0 digits.now) }
+{
+    match value_of(base_of(radix), digits) {
+        Some(value) => typed(value, types_for(radix, suffix)),
+        None => Lexeme::Faulty(Fault::NumberTooLarge),
+    }
+}
+
+/// The text from the index on.
+fn behind(s: &[u8], at: usize) -> &[u8]
+    requires { at ≤ length s.now }
+    ensures { result.now ≡ drop at s.now }
+{
+    &s[at..]
+}
+
+/// The constant at the front, which begins with a digit, and its length.
+#[tactic(auto, unfolding(crate::specs::Scan::number_at, crate::specs::Scan::number_of))]
+pub fn number(s: &[u8]) -> (Lexeme, usize)
+    requires { first_passes decimal_digit s.now ≡ true }
+    ensures { result ≡ spec.number_at s.now }
+{
+    let radix = radix_at(s);
+    let prefix = prefix_of(radix);
+    let rest = behind(s, prefix);
+    let digits = digits_len(radix, rest);
+    let ending = suffix_at(behind(rest, digits));
+    (
+        constant(radix, ending.0, &rest[..digits]),
+        prefix + digits + ending.1,
+    )
 }

@@ -4,22 +4,32 @@ ghost use Rattle.std.specs.Prelude.{◌≡◌, ◌≤◌, length, drop};
 ghost use Rattle.std.specs.List.{prefix_len};
 ghost use Rattle.std.specs.Str.{bytes_eq};
 ghost use Rattle.c_tokens.specs.Words.{keywords};
-ghost use Rattle.c_lexer.specs.Words as words;
+ghost use Rattle.c_lexer.specs.Bytes as bytes;
 ghost use Rattle.c_lexer.specs.Scan as spec;
 
 use crate::bytes::is_word;
+use crate::lexeme::Lexeme;
 use c_tokens::{Keyword, Kind};
 
 /// The length of the word at the front.
-pub fn word_len(s: &[u8]) -> usize
-    ensures value { result ≡ prefix_len words.is_word s.now }
+fn word_len(s: &[u8]) -> usize
+    ensures value { result ≡ prefix_len bytes.is_word s.now }
     ensures within { result ≤ length s.now }
 {
     s.iter().take_while(|b| is_word(**b)).count()
 }
 
+/// The word at the front, with its length.
+#[tactic(auto, unfolding(crate::specs::Scan::word_at))]
+pub fn word(s: &[u8]) -> (Lexeme, usize)
+    ensures { result ≡ spec.word_at s.now }
+{
+    let len = word_len(s);
+    (Lexeme::Sound(word_kind(&s[..len])), len)
+}
+
 /// A keyword or a name.
-pub fn word_kind(word: &[u8]) -> Kind
+fn word_kind(word: &[u8]) -> Kind
     ensures { result ≡ spec.kind_of (spec.entry_of keywords word.now) }
 {
     match keyword(word) {

@@ -115,12 +115,14 @@ pub enum NumType {
     ULong,
 }
 
-/// What a token is. A number has its value and its type.
+/// What a token is. A number has its value and its type, a character constant its value as an `int`: one byte, read as
+/// a `signed char` (C11 6.4.4.4p10).
 #[derive(Clone, Copy, Debug, PartialEq, Eq)]
 pub enum Kind {
     Name,
     Word(Keyword),
     Number(u64, NumType),
+    Char(i32),
     Str,
     Mark(Mark),
 }
@@ -134,6 +136,7 @@ pub fn same_kind(a: Kind, b: Kind) -> bool
         (Kind::Name, Kind::Name) | (Kind::Str, Kind::Str) => true,
         (Kind::Word(x), Kind::Word(y)) => x == y,
         (Kind::Number(m, x), Kind::Number(n, y)) => m == n && x == y,
+        (Kind::Char(x), Kind::Char(y)) => x == y,
         (Kind::Mark(x), Kind::Mark(y)) => x == y,
         _ => false,
     }
