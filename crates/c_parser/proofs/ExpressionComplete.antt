@@ -12,12 +12,12 @@ use Rattle.c_parser.specs.declared.tree.Operator.{Operator}
 use Rattle.c_parser.specs.declared.tree.Operator.TheVariants as op
 use Rattle.c_parser.specs.declared.tree.Expression.{Expression}
 use Rattle.c_parser.specs.declared.tree.Expression.TheVariants as e
-use Rattle.c_parser.specs.Scope.{Name}
-use Rattle.c_parser.specs.Names.{variable_of}
+use Rattle.c_parser.specs.declared.tree.Pointer.{Pointer}
+use Rattle.c_parser.specs.Scope.{Variable, MeansNumber, MeansPointer}
 use Rattle.c_parser.specs.Tokens.{kind_at, place_at, name_at}
-use Rattle.c_parser.specs.Grammar.{sign, rank, IsExpression, name, number, binary}
-use Rattle.c_parser.specs.Steps.{Found, sees, is_kind, operator, expression, primary, climb, climb_at}
-use Rattle.c_parser.proofs.NameLemmas.{finds_variable}
+use Rattle.c_parser.specs.Grammar.{sign, rank, IsExpression, name, number, element, parentheses, binary}
+use Rattle.c_parser.specs.Steps.{Found, element as element_steps, sees, is_kind, operator, expression, primary, parenthesized, climb, climb_at}
+use Rattle.c_parser.proofs.ScopeLemmas.{finds_meaning}
 
 -- ---- what stands at a place
 
@@ -38,6 +38,9 @@ not_here ts at kind other = by_test (sees ts at kind) refl
     by_test true h = absurd (other (stands ts at kind h))
     by_test false h = h
 
+pub stands_not : (ts : List Token) (at : ℕ) (kind : Kind) → sees ts at kind ≡ false → kind_at ts at ≢ Some kind
+stands_not ts at kind h is = let seen = here ts at kind is in cc
+
 -- another kind does not stand there
 pub instead : (ts : List Token) (at : ℕ) (kind other : Kind) → kind_at ts at ≡ Some other → other ≢ kind → sees ts at kind ≡ false
 instead ts at kind other is apart = not_here ts at kind (λ h. apart cc)
@@ -52,8 +55,12 @@ unfoldable pub binds : Option Kind → ℕ
 binds kind = binds_operator (operator kind)
 
 pub operator-sign : (o : Operator) → operator (Some (k.Mark (sign o))) ≡ Some o
+operator-sign op.Multiply = refl
 operator-sign op.Add = refl
+operator-sign op.Subtract = refl
+operator-sign op.Less = refl
 operator-sign op.LessEqual = refl
+operator-sign op.Equal = refl
 
 pub binds-sign : (o : Operator) → binds (Some (k.Mark (sign o))) ≡ rank o
 unfolding binds
@@ -63,13 +70,17 @@ pub binds-RightParen : binds (Some (k.Mark mark.RightParen)) ≡ 0
 unfolding binds
 binds-RightParen = refl
 
+pub binds-RightBracket : binds (Some (k.Mark mark.RightBracket)) ≡ 0
+unfolding binds
+binds-RightBracket = refl
+
 pub binds-Semicolon : binds (Some (k.Mark mark.Semicolon)) ≡ 0
 unfolding binds
 binds-Semicolon = refl
 
 -- ---- steps of the parser
 
-module _ (text : List ℕ) (ts : List Token) (scope : List Name) (inner : ℕ → ℕ → Option Found) where
+module _ (text : List ℕ) (ts : List Token) (scope : List Variable) (inner : ℕ → ℕ → Option Found) where
   -- the parser stops where what follows binds less
   stops_at : (next : Found → Option Found) (depth least start : ℕ) (left : Found) (o : Option Operator) → binds_operator o < least →
       climb_at text ts scope inner next depth least start left o ≡ Some left
@@ -88,21 +99,40 @@ module _ (text : List ℕ) (ts : List Token) (scope : List Name) (inner : ℕ �
   unfolding climb
   climb-goes_on depth least start n left right o sees high found low = rw (sees, le-ltb _ _ high, found, lt-ltb _ _ low) refl
 
-pub primary-name : (text : List ℕ) (ts : List Token) (scope : List Name) (at variable : ℕ) → kind_at ts at ≡ Some k.Name →
-    variable_of scope (name_at text ts at) ≡ Some variable → primary text ts scope at ≡ Some (e.Name (place_at ts at) variable, 1, at + 1)
-unfolding primary
-primary-name text ts scope at variable is means = rw (here ts at k.Name is, means) refl
+module _ (text : List ℕ) (ts : List Token) (scope : List Variable) (inner : ℕ → ℕ → Option Found) (at : ℕ) where
+  pub primary-name : (variable : ℕ) → kind_at ts at ≡ Some k.Name → MeansNumber scope (name_at text ts at) variable → primary text ts scope inner at ≡ Some (e.Name (place_at ts at) variable, 1, at + 1)
+  unfolding primary
+  primary-name variable is means = let m = finds_meaning means in rw (here ts at k.Name is, m) refl
 
-pub primary-number : (text : List ℕ) (ts : List Token) (scope : List Name) (at n : ℕ) → kind_at ts at ≡ Some (k.Number n Int) → n < 2 ^ 31 →
-    primary text ts scope at ≡ Some (e.Number (place_at ts at) (pos n), 1, at + 1)
-unfolding primary
-primary-number text ts scope at n is small =
-    rw (instead ts at k.Name (k.Number n Int) is (λ h. cc), is, lt-ltb _ _ small) refl
+  pub primary-element : (pointer : Pointer) (height to : ℕ) (index : Expression) → kind_at ts at ≡ Some k.Name → MeansPointer scope (name_at text ts at) pointer →
+      kind_at ts (at + 1) ≡ Some (k.Mark mark.LeftBracket) → inner 1 (at + 2) ≡ Some (index, height, to) → kind_at ts to ≡ Some (k.Mark mark.RightBracket) →
+      primary text ts scope inner at ≡ Some (e.Element (place_at ts at) pointer index, height + 1, to + 1)
+  unfolding primary element_steps
+  primary-element pointer height to index is means opens found closes =
+      let m = finds_meaning means in
+      rw (here ts at k.Name is, m, here ts (at + 1) (k.Mark mark.LeftBracket) opens, found, here ts to (k.Mark mark.RightBracket) closes) refl
+
+  pub primary-number : (n : ℕ) → kind_at ts at ≡ Some (k.Number n Int) → n < 2 ^ 31 →
+      primary text ts scope inner at ≡ Some (e.Number (place_at ts at) (pos n), 1, at + 1)
+  unfolding primary
+  primary-number n is small =
+      rw (
+        instead ts at k.Name (k.Number n Int) is (λ h. cc),
+        instead ts at (k.Mark mark.LeftParen) (k.Number n Int) is (λ h. cc),
+        is,
+        lt-ltb _ _ small,
+      ) refl
+
+  pub primary-parentheses : (height to : ℕ) (within : Expression) → kind_at ts at ≡ Some (k.Mark mark.LeftParen) → inner 1 (at + 1) ≡ Some (within, height, to) →
+      kind_at ts to ≡ Some (k.Mark mark.RightParen) → primary text ts scope inner at ≡ Some (e.Parentheses (place_at ts at) within, height + 1, to + 1)
+  unfolding primary parenthesized
+  primary-parentheses height to within opens found closes =
+      rw (instead ts at k.Name (k.Mark mark.LeftParen) opens (λ h. cc), here ts at (k.Mark mark.LeftParen) opens, found, here ts to (k.Mark mark.RightParen) closes) refl
 
 -- ---- the tree is found
 
 -- Run from `from` at depth `below + 1`, the parser comes to the tree, at `to`, with turns left for all that may follow.
-pub record Reaches (text : List ℕ) (ts : List Token) (scope : List Name) (below least limit from to : ℕ) (tree : Expression) : Type 0 where
+pub record Reaches (text : List ℕ) (ts : List Token) (scope : List Variable) (below least limit from to : ℕ) (tree : Expression) : Type 0 where
   pub turns : ℕ
   pub height : ℕ
   pub some : 1 ≤ height
@@ -112,20 +142,20 @@ pub record Reaches (text : List ℕ) (ts : List Token) (scope : List Name) (belo
       ≡ climb text ts scope (expression text ts scope below) (suc below) least from turns (tree, height, to)
 
 -- The parser finds the tree.
-pub record Finds (text : List ℕ) (ts : List Token) (scope : List Name) (depth least limit from to : ℕ) (tree : Expression) : Type 0 where
+pub record Finds (text : List ℕ) (ts : List Token) (scope : List Variable) (depth least limit from to : ℕ) (tree : Expression) : Type 0 where
   pub height : ℕ
   pub some : 1 ≤ height
   pub within : height ≤ limit
   pub is : expression text ts scope depth least from ≡ Some (tree, height, to)
 
-module _ {text : List ℕ} {ts : List Token} {scope : List Name} where
+module _ {text : List ℕ} {ts : List Token} {scope : List Variable} where
   pub positive : {limit level from to : ℕ} {tree : Expression} → IsExpression text ts scope limit level from to tree → 1 ≤ limit
   positive (name is means) = omega arith
   positive _ = omega arith
 
-module _ (text : List ℕ) (ts : List Token) (scope : List Name) where
+module _ (text : List ℕ) (ts : List Token) (scope : List Variable) where
   first : (below least limit from to : ℕ) (tree : Expression) (height : ℕ) → 1 ≤ height → height ≤ limit →
-      primary text ts scope from ≡ Some (tree, height, to) → Reaches text ts scope below least limit from to tree
+      primary text ts scope (expression text ts scope below) from ≡ Some (tree, height, to) → Reaches text ts scope below least limit from to tree
   unfolding expression
   first below least limit from to tree height some within is = record {
     turns = suc below;
@@ -169,13 +199,23 @@ module _ (text : List ℕ) (ts : List Token) (scope : List Name) where
             (ap operator sees ∙ operator-sign o) high r.is (omega arith);
       }
 
-pub reaches : {text : List ℕ} {ts : List Token} {scope : List Name} {limit level from to : ℕ} {tree : Expression} →
+pub reaches : {text : List ℕ} {ts : List Token} {scope : List Variable} {limit level from to : ℕ} {tree : Expression} →
     IsExpression text ts scope limit level from to tree →
     (below least : ℕ) → limit ≤ suc below → least ≤ level → binds (kind_at ts to) ≤ level → Reaches text ts scope below least limit from to tree
 reaches {text} {ts} {scope} {limit} {level} {from} {to} (name {variable} is means) below least deep low ends =
-    first text ts scope below least _ from _ _ 1 (omega arith) (omega arith) (primary-name text ts scope from variable is (finds_variable means))
+    first text ts scope below least _ from _ _ 1 (omega arith) (omega arith) (primary-name text ts scope (expression text ts scope below) from variable is means)
 reaches {text} {ts} {scope} {limit} {level} {from} {to} (number {n} is small) below least deep low ends =
-    first text ts scope below least _ from _ _ 1 (omega arith) (omega arith) (primary-number text ts scope from n is small)
+    first text ts scope below least _ from _ _ 1 (omega arith) (omega arith) (primary-number text ts scope (expression text ts scope below) from n is small)
+reaches {text} {ts} {scope} (element {depth} {from = from} {to} {pointer} {index} is means opens within closes) below least deep low ends =
+    let f = settles text ts scope below 1 depth (from + 2) to index (positive within) (omega arith) (rw (closes, binds-RightBracket) (omega arith))
+    (λ b e. reaches within b 1 (omega arith) (omega arith) (rw (closes, binds-RightBracket) (omega arith))) in
+    first text ts scope below least _ from _ _ (f.height + 1) (omega arith) (let w = f.within in omega arith)
+    (primary-element text ts scope (expression text ts scope below) from pointer f.height to index is means opens f.is closes)
+reaches {text} {ts} {scope} (parentheses {depth} {from = from} {to} {inner} opens within closes) below least deep low ends =
+    let f = settles text ts scope below 1 depth (from + 1) to inner (positive within) (omega arith) (rw (closes, binds-RightParen) (omega arith))
+    (λ b e. reaches within b 1 (omega arith) (omega arith) (rw (closes, binds-RightParen) (omega arith))) in
+    first text ts scope below least _ from _ _ (f.height + 1) (omega arith) (let w = f.within in omega arith)
+    (primary-parentheses text ts scope (expression text ts scope below) from f.height to inner opens f.is closes)
 reaches {text} {ts} {scope} (binary {depth} {level} {from} {at} {to} {left} {right} o high l written r) below least deep low ends =
     let before = reaches l below least (omega arith) (omega arith) (rw (written, binds-sign) (omega arith)) in
     let after = settles text ts scope below (rank o + 1) depth (at + 1) to right (positive r) (omega arith) (omega arith)
@@ -183,7 +223,7 @@ reaches {text} {ts} {scope} (binary {depth} {level} {from} {at} {to} {left} {rig
     joins text ts scope below least depth from at to o left right (omega arith) (omega arith) written before after
 
 -- What is an expression, and stands before what does not go on with it, is found.
-pub finds : {text : List ℕ} {ts : List Token} {scope : List Name} {limit level from to : ℕ} {tree : Expression} →
+pub finds : {text : List ℕ} {ts : List Token} {scope : List Variable} {limit level from to : ℕ} {tree : Expression} →
     IsExpression text ts scope limit level from to tree →
     (depth least : ℕ) → limit ≤ depth → least ≤ level → binds (kind_at ts to) < least → Finds text ts scope depth least limit from to tree
 finds {text} {ts} {scope} {limit} {level} {from} {to} {tree} is depth least deep low ends =

@@ -1,9 +1,12 @@
 pub mod NameLemmas
+pub mod MapLemmas
 pub mod ScopeLemmas
 pub mod Turns
 pub mod StepLemmas
 pub mod ExpressionComplete
 pub mod ExpressionSound
+pub mod PointerComplete
+pub mod PointerSound
 pub mod StatementComplete
 pub mod StatementSound
 pub mod UnitLemmas

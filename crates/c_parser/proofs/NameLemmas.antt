@@ -5,8 +5,8 @@ use Rattle.std.specs.Str.{bytes_eq}
 use Rattle.std.proofs.lemmas.Slice.Eq.{bytes_eq-Decides}
 use Rattle.std.proofs.lemmas.Bool.{cases_Bool, cases_lt, le-leb, leb-true}
 use Rattle.std.proofs.lemmas.Option.{slice_get_within, slice_get-get_or, get_or_from_slice_get}
-use Rattle.c_parser.specs.Scope.{Name, IsReserved, Means}
-use Rattle.c_parser.specs.Names.{last_of, variable_of, is_since, is_reserved}
+use Rattle.c_parser.specs.Scope.{Name, IsReserved, IsLast}
+use Rattle.c_parser.specs.Names.{last_of, last_place, is_since, is_reserved}
 
 pub same_name : (a b : Name) → bytes_eq a b ≡ true → a ≡ b
 same_name a b h = (bytes_eq-Decides a b).0 h
@@ -24,14 +24,14 @@ last_of-push best at (first ∷ rest) new name =
     let e : at + 1 + length rest ≡ at + suc (length rest) = omega arith in
     last_of-push (cond (bytes_eq first name) (Some at) best) (at + 1) rest new name ∙ rw e refl
 
-pub variable_of-none : (name : Name) → variable_of [] name ≡ None
-unfolding variable_of
-variable_of-none name = refl
+pub last_place-none : (name : Name) → last_place [] name ≡ None
+unfolding last_place
+last_place-none name = refl
 
-pub variable_of-push : (names : List Name) (new name : Name) →
-    variable_of (names ++ new ∷ []) name ≡ cond (bytes_eq new name) (Some (length names)) (variable_of names name)
-unfolding variable_of
-variable_of-push names new name =
+pub last_place-push : (names : List Name) (new name : Name) →
+    last_place (names ++ new ∷ []) name ≡ cond (bytes_eq new name) (Some (length names)) (last_place names name)
+unfolding last_place
+last_place-push names new name =
     let e : 0 + length names ≡ length names = omega arith in
     last_of-push None 0 names new name ∙ rw e refl
 
@@ -42,7 +42,7 @@ record IsNowhere (names : List Name) (name : Name) : Type 0 where
   pub apart : (k : ℕ) → slice_get names k ≢ Some name
 
 outcome : (best : Option ℕ) (at : ℕ) (names : List Name) (name : Name) →
-    ((last_of best at names name ≡ best) × IsNowhere names name) ⊎ ((k : ℕ) × (last_of best at names name ≡ Some (at + k)) × Means names name k)
+    ((last_of best at names name ≡ best) × IsNowhere names name) ⊎ ((k : ℕ) × (last_of best at names name ≡ Some (at + k)) × IsLast names name k)
 outcome best at [] name = inl (refl, record { apart = λ k h. cc })
 outcome best at (first ∷ rest) name =
     elim (outcome (cond (bytes_eq first name) (Some at) best) (at + 1) rest name) [
@@ -72,7 +72,7 @@ outcome best at (first ∷ rest) name =
       ]
     ]
   where
-    inner : (first : Name) (rest : List Name) (name : Name) (k : ℕ) → Means rest name k → (other : ℕ) → suc k < other → slice_get (first ∷ rest) other ≢ Some name
+    inner : (first : Name) (rest : List Name) (name : Name) (k : ℕ) → IsLast rest name k → (other : ℕ) → suc k < other → slice_get (first ∷ rest) other ≢ Some name
     inner first rest name k means zero low = absurd (omega arith)
     inner first rest name k means (suc other) low = means.innermost other (omega arith)
 
@@ -84,7 +84,7 @@ outcome best at (first ∷ rest) name =
     nowhere first rest name n none zero h = let e : first ≡ name = cc in let y = name_self first name e in cc
     nowhere first rest name n none (suc k) h = none.apart k h
 
-one_last : (names : List Name) (name : Name) (k v : ℕ) → Means names name k → Means names name v → k ≡ v
+one_last : (names : List Name) (name : Name) (k v : ℕ) → IsLast names name k → IsLast names name v → k ≡ v
 one_last names name k v a b = elim (cases_lt k v) [
   | inl low ↦ absurd (a.innermost v low b.named)
   | inr high ↦ elim (cases_lt v k) [
@@ -94,9 +94,9 @@ one_last names name k v a b = elim (cases_lt k v) [
 ]
 
 -- What a name means is found.
-pub finds_variable : {names : List Name} {name : Name} {variable : ℕ} → Means names name variable → variable_of names name ≡ Some variable
-unfolding variable_of
-finds_variable {names} {name} {variable} means =
+pub finds_place : {names : List Name} {name : Name} {variable : ℕ} → IsLast names name variable → last_place names name ≡ Some variable
+unfolding last_place
+finds_place {names} {name} {variable} means =
     elim (outcome None 0 names name) [
       | inl none ↦ absurd (none.1.apart variable means.named)
       | inr some ↦ (
@@ -106,16 +106,16 @@ finds_variable {names} {name} {variable} means =
     ]
 
 -- What is found is what the name means.
-pub is_variable : (names : List Name) (name : Name) (variable : ℕ) → variable_of names name ≡ Some variable → Means names name variable
-unfolding variable_of
-is_variable names name variable h =
+pub is_place : (names : List Name) (name : Name) (variable : ℕ) → last_place names name ≡ Some variable → IsLast names name variable
+unfolding last_place
+is_place names name variable h =
     elim (outcome None 0 names name) [
       | inl none ↦ (let no = none.0 in absurd cc)
       | inr some ↦ (
           let (k, is, last) = some in
           let same : Some (0 + k) ≡ Some variable = sym is ∙ h in
           let e : k ≡ variable = (let f : 0 + k ≡ variable = cc in omega arith) in
-          subst (λ n. Means names name n) e last)
+          subst (λ n. IsLast names name n) e last)
     ]
 
 -- ---- a block's own names
@@ -131,21 +131,21 @@ stands_at : (names : List Name) (name : Name) (k : ℕ) → k < length names →
 stands_at names name k low is = slice_get-get_or names k name low ∙ ap (λ l. Some l) is
 
 -- What is found behind a block's beginning is one of its names.
-pub own_is_since : (outside own : List Name) (name : Name) → is_since (length outside) (variable_of (outside ++ own) name) ≡ true → Contains own name
-own_is_since outside own name h = by_found (variable_of (outside ++ own) name) refl h
+pub own_is_since : (outside own : List Name) (name : Name) → is_since (length outside) (last_place (outside ++ own) name) ≡ true → Contains own name
+own_is_since outside own name h = by_found (last_place (outside ++ own) name) refl h
   where
-    by_found : (found : Option ℕ) → variable_of (outside ++ own) name ≡ found → is_since (length outside) found ≡ true → Contains own name
+    by_found : (found : Option ℕ) → last_place (outside ++ own) name ≡ found → is_since (length outside) found ≡ true → Contains own name
     by_found (Some v) is h =
         let low : length outside ≤ v = leb-true _ _ h in
         let e : length outside + (v - length outside) ≡ v = omega arith in
-        let means = is_variable (outside ++ own) name v is in
+        let means = is_place (outside ++ own) name v is in
         contains_at own name (v - length outside)
         (sym (slice_get-behind outside own (v - length outside)) ∙ ap (λ n. slice_get (outside ++ own) n) e ∙ means.named)
     by_found None is h = absurd cc
 
 -- One of a block's names is found behind its beginning.
-pub since_is_own : (outside own : List Name) (name : Name) → Contains own name → is_since (length outside) (variable_of (outside ++ own) name) ≡ true
-unfolding variable_of
+pub since_is_own : (outside own : List Name) (name : Name) → Contains own name → is_since (length outside) (last_place (outside ++ own) name) ≡ true
+unfolding last_place
 since_is_own outside own name (k, low, is) =
     let at = slice_get-behind outside own k ∙ stands_at own name k low is in
     elim (outcome None 0 (outside ++ own) name) [
@@ -159,8 +159,8 @@ since_is_own outside own name (k, low, is) =
           rw found (le-leb _ _ high))
     ]
 
-pub not_since : (outside own : List Name) (name : Name) → (Contains own name → ⊥) → is_since (length outside) (variable_of (outside ++ own) name) ≡ false
-not_since outside own name apart = elim (cases_Bool (is_since (length outside) (variable_of (outside ++ own) name))) [
+pub not_since : (outside own : List Name) (name : Name) → (Contains own name → ⊥) → is_since (length outside) (last_place (outside ++ own) name) ≡ false
+not_since outside own name apart = elim (cases_Bool (is_since (length outside) (last_place (outside ++ own) name))) [
   | inl y ↦ absurd (apart (own_is_since outside own name y))
   | inr n ↦ n
 ]
@@ -187,7 +187,7 @@ reserved name h = elim (or_true (bytes_eq name (codes "printf")) (bytes_eq name 
 pub not_reserved : (name : Name) → (IsReserved name → ⊥) → is_reserved name ≡ false
 not_reserved name apart = elim (cases_Bool (is_reserved name)) [ inl y ↦ absurd (apart (reserved name y)) | inr n ↦ n ]
 
-is_reserved-true : (name : Name) → IsReserved name → is_reserved name ≡ true
+pub is_reserved-true : (name : Name) → IsReserved name → is_reserved name ≡ true
 is_reserved-true name (inl a) = rw (name_self name (codes "printf") a) refl
 is_reserved-true name (inr (inl b)) = by_cases (bytes_eq name (codes "printf")) refl
   where

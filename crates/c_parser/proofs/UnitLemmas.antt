@@ -12,17 +12,19 @@ use Rattle.c_parser.specs.declared.tree.Unit.{Unit as Tree}
 use Rattle.c_parser.specs.declared.error.ParseError.{ParseError}
 use Rattle.c_parser.specs.declared.error.ParseError.TheVariants.{Memory, NotYet}
 use Rattle.c_parser.specs.Scope.{Name}
-use Rattle.c_parser.specs.Names.{variable_of, is_since, is_reserved}
+use Rattle.c_parser.specs.Names.{last_place, is_since, is_reserved}
 use Rattle.c_parser.specs.Tokens.{place_at, name_at}
 use Rattle.c_parser.specs.Grammar.{IsFunction, AreFunctions, Derives, function, none, more, max_depth}
 use Rattle.c_parser.specs.Steps.{Gives}
 use Rattle.c_parser.specs.StatementSteps as step
 use Rattle.c_parser.specs.StatementSteps.{statement, functions}
-use Rattle.c_parser.proofs.NameLemmas.{variable_of-none, since_is_own, not_since, not_reserved, none_reserved}
+use Rattle.c_parser.proofs.NameLemmas.{since_is_own, not_since, not_reserved, none_reserved}
+use Rattle.c_parser.proofs.ScopeLemmas.{clear-none}
 use Rattle.c_parser.proofs.ExpressionComplete.{here}
-use Rattle.c_parser.proofs.ExpressionSound.{bind_some, chosen}
+use Rattle.c_parser.proofs.ExpressionSound.{bind_some, chosen, seen}
 use Rattle.c_parser.proofs.StatementComplete.{finds_statement, statement_moves}
-use Rattle.c_parser.proofs.StatementSound.{seen, unless, is_statement}
+use Rattle.c_parser.proofs.StatementSound.{is_statement}
+use Rattle.c_parser.proofs.PointerSound.{unless}
 
 -- ---- names of functions
 
@@ -30,12 +32,12 @@ any_is_since : (found : Option ℕ) → is_some found ≡ is_since 0 found
 any_is_since (Some v) = sym (le-leb 0 v (omega arith))
 any_is_since None = refl
 
-new_name : (earlier : List Name) (called : Name) → (Contains earlier called → ⊥) → is_some (variable_of earlier called) ≡ false
-new_name earlier called apart = any_is_since (variable_of earlier called) ∙ not_since [] earlier called apart
+new_name : (earlier : List Name) (called : Name) → (Contains earlier called → ⊥) → is_some (last_place earlier called) ≡ false
+new_name earlier called apart = any_is_since (last_place earlier called) ∙ not_since [] earlier called apart
 
-no_earlier : (earlier : List Name) (called : Name) → is_some (variable_of earlier called) ≡ false → Contains earlier called → ⊥
+no_earlier : (earlier : List Name) (called : Name) → is_some (last_place earlier called) ≡ false → Contains earlier called → ⊥
 no_earlier earlier called n is =
-    let y : is_some (variable_of earlier called) ≡ true = any_is_since (variable_of earlier called) ∙ since_is_own [] earlier called is in
+    let y : is_some (last_place earlier called) ≡ true = any_is_since (last_place earlier called) ∙ since_is_own [] earlier called is in
     cc
 
 -- ---- what is there is found
@@ -60,7 +62,7 @@ finds_function {text} {ts} (function {from} a b free c d e g is) depth deep =
       here ts _ _ d,
       here ts _ _ e,
       here ts _ _ g,
-      finds_statement is (variable_of-none _) depth deep,
+      finds_statement is (clear-none) depth deep,
     ) refl
 
 module _ (text : List ℕ) (ts : List Token) (depth : ℕ) where
@@ -69,7 +71,7 @@ module _ (text : List ℕ) (ts : List Token) (depth : ℕ) where
   functions_stop n earlier found at h = rw (eq-eqb at (length ts) h) refl
 
   functions_more : (n : ℕ) (earlier : List Name) (found : List Function) (at after : ℕ) (next : Function) → at < length ts →
-      step.function text ts depth at ≡ Some (next, after) → is_some (variable_of earlier next.name) ≡ false →
+      step.function text ts depth at ≡ Some (next, after) → is_some (last_place earlier next.name) ≡ false →
       functions text ts depth (suc n) earlier found at ≡ functions text ts depth n (earlier ++ next.name ∷ []) (found ++ next ∷ []) after
   unfolding functions
   functions_more n earlier found at after next low is new = rw (ne_eqb at (length ts) (omega arith), is, new) refl
@@ -131,7 +133,7 @@ are_functions text ts (suc n) earlier found at all h =
           record { rest = []; are = sym e ∙ sym (append-nil found); each = subst (λ n. AreFunctions text ts earlier at n []) end none })
       | inr c ↦ (
           let (next, is, h1) = bind_some (step.function text ts max_depth at) _ all c.1 in
-          let (new, h2) = unless (is_some (variable_of earlier next.0.name)) _ all h1 in
+          let (new, h2) = unless (is_some (last_place earlier next.0.name)) _ all h1 in
           one_before text ts earlier found at next all (is_function text ts at next is) (no_earlier earlier next.0.name new)
           (are_functions text ts n (earlier ++ next.0.name ∷ []) (found ++ next.0 ∷ []) next.1 all h2))
     ]

@@ -4,9 +4,9 @@ use Rattle.std.specs.declared.alloc.Global.{Global}
 use Rattle.std.specs.BTreeMap.{BTreeMap, get_by}
 use Rattle.std.specs.Cmp.Lexicographic.{slice_cmp}
 use Rattle.std.specs.Ordering.{nat_cmp}
-use Rattle.c_parser.specs.declared.scope.Declared.{Declared}
+use Rattle.c_parser.specs.declared.names.Declared.{Declared}
 use Rattle.c_parser.specs.Scope.{Name}
-use Rattle.c_parser.specs.Names.{variable_of}
+use Rattle.c_parser.specs.Names.{last_place}
 
 abbrev pub names_of : List Declared → List Name
 names_of declared = map (λ (d : Declared). d.name.items) declared
@@ -14,12 +14,12 @@ names_of declared = map (λ (d : Declared). d.name.items) declared
 -- each hides what its name meant before it
 abbrev pub HideEarlier : List Name → List Declared → Type 0
 HideEarlier earlier [] = Unit {0}
-HideEarlier earlier (d ∷ ds) = (d.hides ≡ variable_of earlier d.name.items) × HideEarlier (earlier ++ d.name.items ∷ []) ds
+HideEarlier earlier (d ∷ ds) = (d.hides ≡ last_place earlier d.name.items) × HideEarlier (earlier ++ d.name.items ∷ []) ds
 
 abbrev pub place_of : BTreeMap (Vec ℕ Global) ℕ → Name → Option ℕ
 place_of places name = get_by (λ k. slice_cmp nat_cmp name k.items) places
 
 -- the map has what each name means
 pub record IsKept (places : BTreeMap (Vec ℕ Global) ℕ) (declared : List Declared) : Type 0 where
-  pub latest : (name : Name) → place_of places name ≡ variable_of (names_of declared) name
+  pub latest : (name : Name) → place_of places name ≡ last_place (names_of declared) name
   pub hidden : HideEarlier [] declared

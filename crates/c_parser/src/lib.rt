@@ -1,9 +1,14 @@
 //! The parser: from tokens to the syntax tree.
 #![tactic(auto)]
 
+mod assignment;
+mod declaration;
 mod error;
 mod expression;
+mod names;
+mod pointer;
 mod scope;
+mod sort;
 mod statement;
 mod tokens;
 mod tree;
@@ -11,5 +16,5 @@ mod unit;
 
 pub use c_types::Text;
 pub use error::ParseError;
-pub use tree::{Expression, Function, Operator, Place, Statement, Unit};
+pub use tree::{Expression, Function, Operator, Place, Pointer, Statement, Target, Unit};
 pub use unit::{law_derivation, parse};

@@ -1,38 +1,39 @@
-//! The names in scope, and what each means.
+//! The variables in scope, and what each name means.
 
-ghost use Rattle.std.specs.Prelude.{◌≡◌, ◌+◌, ◌<◌, ◌≤◌, ◌^◌, ◌-◌, [], ◌∷◌, ◌++◌, length, take, codes, OnOk, OnErr};
-ghost use Rattle.std.specs.Str.{bytes_eq};
-ghost use Rattle.c_parser.specs.Names.{variable_of, is_reserved as reserved};
+ghost use Rattle.std.specs.Prelude.{◌≡◌, ◌<◌, ◌^◌, [], ◌∷◌, ◌++◌, length, take, slice_get, OnOk, OnErr};
+ghost use Rattle.c_parser.specs.Scope.{names};
+ghost use Rattle.c_parser.specs.Names.{last_place, meaning, pointer_of};
+ghost use Rattle.c_parser.specs.Names as spec;
 
+use crate::names::Names;
+use crate::sort::Sort;
+use crate::tree::Pointer;
 use std::alloc::{AllocError, Global};
-use std::collections::BTreeMap;
 use std::marker::Model;
 
-/// A declared name, with the place of the one that it hides.
-#[derive(Drop)]
-struct Declared {
-    name: Vec<u8>,
-    hides: Option<u32>,
-}
-
-/// The names in scope, the outermost first: contracts see their list. A look-up, a declaration and the end
-/// of a name's scope take logarithmic time each.
+/// The variables in scope, the outermost first: contracts see the list of their names and sorts.
 #[derive(Drop)]
 pub struct Scope {
-    places: BTreeMap<Vec<u8>, u32>,
-    declared: Vec<Declared>,
+    names: Names,
+    sorts: Vec<Sort>,
 }
 
 impl Model for Scope {
-    ghost use Rattle.std.specs.Prelude.{List, ℕ};
+    ghost use Rattle.std.specs.Prelude.{◌≡◌, List, length};
+    ghost use Rattle.std.specs.List.{zip};
+    ghost use Rattle.c_parser.specs.Scope.{Variable};
 
-    ghost Value = { List (List ℕ) };
+    ghost Value = { List Variable };
 
-    ghost use Rattle.c_parser.specs.Scoping.{names_of, IsKept};
+    ghost view = { λ s. zip s.names s.sorts.items };
 
-    ghost view = { λ s. names_of s.declared.items };
+    ghost invariant = { λ s. length s.sorts.items ≡ length s.names };
+}
 
-    ghost invariant = { λ s. IsKept s.places s.declared.items };
+fn sort_at(sorts: &[Sort], at: usize) -> Option<Sort>
+    ensures { result ≡ slice_get sorts.now at }
+{
+    sorts.get(at).copied()
 }
 
 impl Scope {
@@ -40,82 +41,70 @@ impl Scope {
         ensures { result ≡ [] }
     {
         Scope {
-            places: BTreeMap::new(alloc),
-            declared: Vec::new(alloc),
+            names: Names::new(alloc),
+            sorts: Vec::new(alloc),
         }
     }
 
-    /// How many names are in scope.
+    /// How many variables are in scope.
     pub fn len(&self) -> usize
         ensures { result ≡ length self.now }
     {
-        self.declared.len()
+        self.sorts.len()
     }
 
-    /// The variable that the name means.
-    pub fn find(&self, name: &[u8]) -> Option<u32>
-        ensures { result ≡ variable_of self.now name.now }
+    /// The variable that the name means, and its sort.
+    pub fn find(&self, name: &[u8]) -> Option<(u32, Sort)>
+        ensures { result ≡ meaning self.now name.now }
     {
-        self.places.get(name).copied()
+        let Some(variable) = self.names.find(name) else {
+            return None;
+        };
+        match sort_at(self.sorts.as_slice(), variable as usize) {
+            Some(sort) => Some((variable, sort)),
+            None => None,
+        }
     }
 
-    /// Declares a name behind all others.
-    pub fn declare(&mut self, alloc: Global, name: &[u8]) -> Result<(), AllocError>
+    /// The variable that the name means, if it is a pointer.
+    #[tactic(auto, unfolding(crate::specs::Names::pointer_of))]
+    pub fn pointer(&self, name: &[u8]) -> Option<Pointer>
+        ensures { result ≡ pointer_of self.now name.now }
+    {
+        match self.find(name) {
+            Some((variable, Sort::Pointer(target))) => Some(Pointer { variable, target }),
+            _ => None,
+        }
+    }
+
+    /// Whether a variable behind the first `start` has the name.
+    pub fn is_since(&self, start: usize, name: &[u8]) -> bool
+        ensures { result ≡ spec.is_since start (last_place (names self.now) name.now) }
+    {
+        match self.names.find(name) {
+            Some(variable) => start <= variable as usize,
+            None => false,
+        }
+    }
+
+    /// Declares a variable behind all others.
+    pub fn declare(&mut self, alloc: Global, name: &[u8], sort: Sort) -> Result<(), AllocError>
         requires { length self.old < 2 ^ 32 }
-        ensures ok { OnOk result (self.new ≡ self.old ++ name.now ∷ []) }
+        ensures ok { OnOk result (self.new ≡ self.old ++ (name.now, sort) ∷ []) }
         ensures err { OnErr result (self.new ≡ self.old) }
     {
-        let place = self.declared.len() as u32;
-        let declared = Declared {
-            name: Vec::from_slice(alloc, name)?,
-            hides: self.places.get(name).copied(),
-        };
-        self.declared.reserve(1)?;
-        self.places.insert(Vec::from_slice(alloc, name)?, place)?;
-        let stored: Result<_, _> = self.declared.push(declared);
+        self.sorts.reserve(1)?;
+        self.names.declare(alloc, name)?;
+        let stored: Result<_, _> = self.sorts.push(sort);
         stored.unwrap();
         Ok(())
     }
 
-    /// Ends the scope of the last name.
-    fn end_last(&mut self)
-        requires { 0 < length self.old }
-        ensures { self.new ≡ take (length self.old - 1) self.old }
-    {
-        let Some(Declared { name, hides }) = self.declared.pop() else {
-            return;
-        };
-        match hides {
-            Some(place) => {
-                let stored: Result<_, _> = self.places.insert(name, place);
-                stored.unwrap();
-            }
-            None => {
-                self.places.remove(name.as_slice());
-            }
-        }
-    }
-
-    /// Ends the scope of all names but the first `start`.
+    /// Ends the scope of all variables but the first `start`.
     pub fn close(&mut self, start: usize)
         ensures { self.new ≡ take start self.old }
     {
-        while self.len() > start {
-            self.end_last();
-        }
+        self.names.close(start);
+        self.sorts.truncate(start);
     }
-}
-
-/// Whether it is the name of the function that prints.
-pub fn is_printf(name: &[u8]) -> bool
-    ensures { result ≡ bytes_eq name.now (codes "printf") }
-{
-    name == b"printf".as_slice()
-}
-
-/// Whether it is the name of a function that a program is given.
-pub fn is_reserved(name: &[u8]) -> bool
-    ensures { result ≡ reserved name.now }
-{
-    is_printf(name) || name == b"malloc".as_slice() || name == b"free".as_slice()
 }

@@ -5,139 +5,17 @@ ghost use Rattle.c_parser.specs.Steps.{Gives};
 ghost use Rattle.c_parser.specs.StatementSteps as spec;
 ghost use Rattle.c_parser.specs.Tokens as token;
 
+use crate::assignment::named;
+use crate::declaration::declared;
 use crate::error::ParseError;
 use crate::expression::expression;
-use crate::scope::{Scope, is_printf, is_reserved};
-use crate::tokens::{expect, name_at, place_at, sees};
+use crate::pointer::target_at;
+use crate::scope::Scope;
+use crate::tokens::{expect, place_at, sees};
 use crate::tree::{Expression, Place, Statement};
 use c_tokens::{Keyword, Kind, Mark, Token};
 use sqlite_items::{Boxed, Items};
 use std::alloc::{AllocError, Global};
-
-/// `int NAME = value;` in a block whose names begin at `start`. The name is in scope in its own value.
-#[tactic(auto, unfolding(crate::specs::StatementSteps::declaration))]
-fn declaration(
-    alloc: Global,
-    text: &[u8],
-    tokens: &[Token],
-    scope: &mut Scope,
-    start: usize,
-    depth: usize,
-    at: usize,
-) -> Result<(Statement, usize), ParseError>
-    requires small { length tokens.now ≤ 200000 }
-    requires at_in { at < length tokens.now }
-    requires scope_in { length scope.old ≤ at }
-    ensures value { Gives result (spec.declaration text.now tokens.now depth start scope.old at) }
-    ensures within { IfOk result (λ f. (at + 1 < f.1) × (f.1 ≤ length tokens.now)) }
-    ensures declared { OnOk result (scope.new ≡ scope.old ++ token.name_at text.now tokens.now (at + 1) ∷ []) }
-{
-    expect(tokens, at + 1, Kind::Name)?;
-    let name = name_at(text, tokens, at + 1);
-    if is_taken(scope, start, name) {
-        return Err(ParseError::NotYet);
-    }
-    expect(tokens, at + 2, Kind::Mark(Mark::Equal))?;
-    scope.declare(alloc, name)?;
-    let (value, _, end) = expression(
-        alloc,
-        text,
-        tokens,
-        scope,
-        depth.saturating_sub(1),
-        1,
-        at + 3,
-    )?;
-    expect(tokens, end, Kind::Mark(Mark::Semicolon))?;
-    Ok((
-        Statement::Declaration(place_at(tokens, at), place_at(tokens, at + 1), value),
-        end + 1,
-    ))
-}
-
-/// Whether the name may not be declared in a block whose names begin at `start`.
-fn is_taken(scope: &Scope, start: usize, name: &[u8]) -> bool
-    ensures { result ≡ spec.is_taken start scope.now name.now }
-{
-    if is_reserved(name) {
-        return true;
-    }
-    match scope.find(name) {
-        Some(variable) => start <= variable as usize,
-        None => false,
-    }
-}
-
-#[tactic(auto, unfolding(crate::specs::StatementSteps::assignment))]
-fn assignment(
-    alloc: Global,
-    text: &[u8],
-    tokens: &[Token],
-    scope: &Scope,
-    depth: usize,
-    at: usize,
-) -> Result<(Statement, usize), ParseError>
-    requires small { length tokens.now ≤ 200000 }
-    requires at_in { at < length tokens.now }
-    ensures value { Gives result (spec.assignment text.now tokens.now depth scope.now at) }
-    ensures within { IfOk result (λ f. (at < f.1) × (f.1 ≤ length tokens.now)) }
-{
-    let Some(variable) = scope.find(name_at(text, tokens, at)) else {
-        return Err(ParseError::NotYet);
-    };
-    expect(tokens, at + 1, Kind::Mark(Mark::Equal))?;
-    let (value, _, end) = expression(alloc, text, tokens, scope, depth, 1, at + 2)?;
-    expect(tokens, end, Kind::Mark(Mark::Semicolon))?;
-    Ok((
-        Statement::Assignment(place_at(tokens, at), variable, value),
-        end + 1,
-    ))
-}
-
-#[tactic(auto, unfolding(crate::specs::StatementSteps::print))]
-fn print(
-    alloc: Global,
-    text: &[u8],
-    tokens: &[Token],
-    scope: &Scope,
-    depth: usize,
-    at: usize,
-) -> Result<(Statement, usize), ParseError>
-    requires small { length tokens.now ≤ 200000 }
-    requires at_in { at < length tokens.now }
-    ensures value { Gives result (spec.print text.now tokens.now depth scope.now at) }
-    ensures within { IfOk result (λ f. (at < f.1) × (f.1 ≤ length tokens.now)) }
-{
-    expect(tokens, at + 1, Kind::Mark(Mark::LeftParen))?;
-    expect(tokens, at + 2, Kind::Str)?;
-    expect(tokens, at + 3, Kind::Mark(Mark::Comma))?;
-    let (value, _, end) = expression(alloc, text, tokens, scope, depth, 1, at + 4)?;
-    expect(tokens, end, Kind::Mark(Mark::RightParen))?;
-    expect(tokens, end + 1, Kind::Mark(Mark::Semicolon))?;
-    Ok((Statement::Print(place_at(tokens, at), value), end + 2))
-}
-
-/// A statement that begins with a name.
-#[tactic(auto, unfolding(crate::specs::StatementSteps::named))]
-fn named(
-    alloc: Global,
-    text: &[u8],
-    tokens: &[Token],
-    scope: &Scope,
-    depth: usize,
-    at: usize,
-) -> Result<(Statement, usize), ParseError>
-    requires small { length tokens.now ≤ 200000 }
-    requires at_in { at < length tokens.now }
-    ensures value { Gives result (spec.named text.now tokens.now depth scope.now at) }
-    ensures within { IfOk result (λ f. (at < f.1) × (f.1 ≤ length tokens.now)) }
-{
-    if is_printf(name_at(text, tokens, at)) {
-        print(alloc, text, tokens, scope, depth, at)
-    } else {
-        assignment(alloc, text, tokens, scope, depth, at)
-    }
-}
 
 /// What stands in parentheses after a word, and the place after them.
 #[tactic(auto, unfolding(crate::specs::StatementSteps::condition))]
@@ -171,6 +49,34 @@ fn looped(
     Ok(Statement::While(place, test, Boxed::new(alloc, body)?))
 }
 
+fn guarded(
+    alloc: Global,
+    place: Place,
+    test: Expression,
+    then: Statement,
+) -> Result<Statement, AllocError>
+    ensures { IfOk result (λ s. s ≡ Statement.If place test then) }
+{
+    Ok(Statement::If(place, test, Boxed::new(alloc, then)?))
+}
+
+fn either(
+    alloc: Global,
+    place: Place,
+    test: Expression,
+    then: Statement,
+    otherwise: Statement,
+) -> Result<Statement, AllocError>
+    ensures { IfOk result (λ s. s ≡ Statement.IfElse place test then otherwise) }
+{
+    Ok(Statement::IfElse(
+        place,
+        test,
+        Boxed::new(alloc, then)?,
+        Boxed::new(alloc, otherwise)?,
+    ))
+}
+
 /// A statement, nested no deeper than `depth`, and the place after it.
 #[cycle(statement)]
 pub fn statement(
@@ -197,6 +103,8 @@ pub fn statement(
         named(alloc, text, tokens, scope, depth - 1, at)
     } else if sees(tokens, at, Kind::Word(Keyword::While)) {
         repeated(alloc, text, tokens, scope, depth - 1, at)
+    } else if sees(tokens, at, Kind::Word(Keyword::If)) {
+        conditional(alloc, text, tokens, scope, depth - 1, at)
     } else {
         Err(ParseError::NotYet)
     }
@@ -224,6 +132,34 @@ fn repeated(
     Ok((looped(alloc, place_at(tokens, at), test, body)?, end))
 }
 
+/// `if (test) then`, with the `else` that follows it if there is one.
+#[cycle(statement)]
+#[tactic(auto, unfolding(crate::specs::StatementSteps::conditional))]
+fn conditional(
+    alloc: Global,
+    text: &[u8],
+    tokens: &[Token],
+    scope: &mut Scope,
+    depth: usize,
+    at: usize,
+) -> Result<(Statement, usize), ParseError>
+    requires small { length tokens.now ≤ 200000 }
+    requires at_in { at < length tokens.now }
+    requires scope_in { length scope.old ≤ at }
+    ensures value { Gives result (spec.conditional text.now tokens.now depth (spec.statement text.now tokens.now depth) scope.old at) }
+    ensures within { IfOk result (λ f. (at < f.1) × (f.1 ≤ length tokens.now)) }
+    ensures kept { OnOk result (scope.new ≡ scope.old) }
+{
+    let (test, start) = condition(alloc, text, tokens, scope, depth, at)?;
+    let (then, end) = statement(alloc, text, tokens, scope, depth, start)?;
+    let place = place_at(tokens, at);
+    if !sees(tokens, end, Kind::Word(Keyword::Else)) {
+        return Ok((guarded(alloc, place, test, then)?, end));
+    }
+    let (otherwise, last) = statement(alloc, text, tokens, scope, depth, end + 1)?;
+    Ok((either(alloc, place, test, then, otherwise)?, last))
+}
+
 #[cycle(statement)]
 #[tactic(auto, unfolding(crate::specs::StatementSteps::block))]
 fn block(
@@ -245,7 +181,7 @@ fn block(
     Ok((Statement::Block(place_at(tokens, at), all), end))
 }
 
-/// Up to the closing brace, at which the block's own names go out of scope.
+/// Up to the closing brace, at which the block's own variables go out of scope.
 #[cycle(statement)]
 fn items(
     alloc: Global,
@@ -276,7 +212,7 @@ fn items(
     Err(ParseError::NotYet)
 }
 
-/// A declaration or a statement in a block whose names begin at `start`.
+/// A declaration or a statement in a block whose variables begin at `start`.
 #[cycle(statement)]
 #[tactic(auto, unfolding(crate::specs::StatementSteps::item, crate::specs::StatementSteps::after))]
 fn item(
@@ -297,9 +233,8 @@ fn item(
     ensures long { IfOk result (λ f. length scope.new ≤ f.1) }
     ensures outside { OnOk result (start ≤ length scope.old → (start ≤ length scope.new) × (take start scope.new ≡ take start scope.old)) }
 {
-    if sees(tokens, at, Kind::Word(Keyword::Int)) {
-        declaration(alloc, text, tokens, scope, start, depth, at)
-    } else {
-        statement(alloc, text, tokens, scope, depth, at)
+    match target_at(tokens, at) {
+        Some(target) => declared(alloc, text, tokens, scope, start, depth, target, at),
+        None => statement(alloc, text, tokens, scope, depth, at),
     }
 }

@@ -8,7 +8,8 @@ ghost use Rattle.c_parser.specs.StatementSteps as spec;
 ghost use Rattle.c_parser.specs.Grammar.{Derives, max_depth};
 
 use crate::error::ParseError;
-use crate::scope::{Scope, is_reserved};
+use crate::names::{Names, is_reserved};
+use crate::scope::Scope;
 use crate::statement::statement;
 use crate::tokens::{expect, name_at, place_at};
 use crate::tree::{Function, Unit};
@@ -55,7 +56,7 @@ fn functions(alloc: Global, text: &[u8], tokens: &[Token]) -> Result<Items<Funct
     requires { length tokens.now ≤ 200000 }
     ensures { Gives result (spec.functions text.now tokens.now max_depth (length tokens.now + 1) [] [] 0) }
 {
-    let mut names = Scope::new(alloc);
+    let mut names = Names::new(alloc);
     let mut found = Items::new(alloc);
     let mut at = 0;
     for _turn in 0..tokens.len() + 1 {

@@ -2,7 +2,7 @@ use Rattle.std.proofs.Common.{rules, arith, ◌+◌, ◌-◌, ◌∙◌, sym, le
 use Rattle.std.proofs.lemmas.Grind.{common_steps}
 use Rattle.c_parser.specs.StatementSteps.{statement, items}
 use Rattle.c_parser.proofs.Turns.{one_more, no_more}
-use Rattle.c_parser.proofs.StepLemmas.{statement-zero, statement-block, statement-named, statement-repeated, statement-other, items-stop, items-more, items-fail, items-end}
+use Rattle.c_parser.proofs.StepLemmas.{statement-zero, statement-block, statement-named, statement-repeated, statement-conditional, statement-other, items-stop, items-more, items-fail, items-end}
 use Rattle.c_parser.proofs.statement.+statement.Goals as goal
 
 pub statement-returns-then-depth-eq0-clause-value : goal.statement-returns-then-depth-eq0-clause-value
@@ -24,10 +24,16 @@ statement-returns-then-sees-3-clause-value t c =
     (sym c.sees-else-sees.ensures.value ∙ c.if-sees-2.false) (sym c.sees-else-sees-2.ensures.value ∙ c.if-sees-3.true))
     c.repeated.ensures.value
 
-pub statement-returns-else-sees-3-clause-value : goal.statement-returns-else-sees-3-clause-value
-statement-returns-else-sees-3-clause-value t c _ =
+pub statement-returns-then-sees-4-clause-value : goal.statement-returns-then-sees-4-clause-value
+statement-returns-then-sees-4-clause-value t c =
+    rw (statement-conditional c.args.text.now c.args.tokens.now c.args.depth c.args.scope.now c.args.at (omega arith) (sym c.sees.ensures.value ∙ c.if-sees.false)
+    (sym c.sees-else-sees.ensures.value ∙ c.if-sees-2.false) (sym c.sees-else-sees-2.ensures.value ∙ c.if-sees-3.false) (sym c.sees-else-sees-3.ensures.value ∙ c.if-sees-4.true))
+    c.conditional.ensures.value
+
+pub statement-returns-else-sees-4-clause-value : goal.statement-returns-else-sees-4-clause-value
+statement-returns-else-sees-4-clause-value t c _ =
     statement-other c.args.text.now c.args.tokens.now c.args.depth c.args.scope.now c.args.at (omega arith) (sym c.sees.ensures.value ∙ c.if-sees.false)
-    (sym c.sees-else-sees.ensures.value ∙ c.if-sees-2.false) (sym c.sees-else-sees-2.ensures.value ∙ c.if-sees-3.false)
+    (sym c.sees-else-sees.ensures.value ∙ c.if-sees-2.false) (sym c.sees-else-sees-2.ensures.value ∙ c.if-sees-3.false) (sym c.sees-else-sees-3.ensures.value ∙ c.if-sees-4.false)
 
 pub items-returns-then-sees-clause-value : goal.items-returns-then-sees-clause-value
 items-returns-then-sees-clause-value t c =

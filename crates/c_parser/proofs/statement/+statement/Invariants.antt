@@ -8,6 +8,9 @@ decreases-statement l = 4 * l.depth
 abbrev pub decreases-repeated : goal.decreases-repeated
 decreases-repeated l = 4 * l.depth + 1
 
+abbrev pub decreases-conditional : goal.decreases-conditional
+decreases-conditional l = 4 * l.depth + 1
+
 abbrev pub decreases-block : goal.decreases-block
 decreases-block l = 4 * l.depth + 3
 
