@@ -1,5 +1,6 @@
 pub mod Equations
-pub mod TypedEquations
-pub mod NamesLemmas
 pub mod Relations
+pub mod Endings
 pub mod LawLemmas
+pub mod Wants
+pub mod NamesLemmas

@@ -1,33 +1,88 @@
--- What a worker does with a limit on its turns.
-use Rattle.std.specs.Prelude.{ℕ, zero, suc, List, [], ◌++◌, Option, Some, None}
+-- What a worker does once its pointers are kept in one way, with a limit on its turns: it says, it takes turns, and it asks a
+-- heap. C is what it asks, and A what it is told.
+use Rattle.std.specs.Prelude.{◌≡◌, ℕ, zero, suc, ◌≤◌, List, [], ◌∷◌, ◌++◌}
 use Rattle.plain_meaning.specs.declared.record.Ending.{Ending}
 use Rattle.plain_meaning.specs.declared.record.Ending.TheVariants.{Finished, Spent}
-use Rattle.plain_meaning.specs.Tree.{Tree, Return, Stop, Lost, Print, Turn}
+use Rattle.plain_meaning.specs.declared.scalar.Scalar.{Scalar}
+use Rattle.plain_meaning.specs.Tree.{Tree, Return, Stop, Lost, Print, Turn, Point}
+use Rattle.plain_meaning.specs.Points.{Mode, Next, Go, Halt, Answer, Now, Ask, PointerIn, Note, CallIn, ReplyIn, point, told, ended}
 
-pub data Acts : Type 0 where
+pub data Acts (C A : Type 0) : Type 0 where
   -- it has ended
-  Over : Ending → Acts
-  Unknown : Acts
-  Says : List ℕ → Acts → Acts
-  Took : Acts → Acts
+  Over : Ending → Acts C A
+  -- past the turns that are looked at
+  Unknown : Acts C A
+  Says : List ℕ → Acts C A → Acts C A
+  Took : Acts C A → Acts C A
+  Asks : C → (A → Acts C A) → Acts C A
+
+module _ {C A : Type 0} (m : Mode) where
+  abbrev pub goes : Next (PointerIn m) (Note m) → (Scalar (PointerIn m) → Note m → Acts C A) → Acts C A
+  goes (Go v note) next = next v note
+  goes (Halt ending note) next = Over (ended m note ending)
+
+-- a point, by its answer and what a reply leads to
+abbrev pub resolve : (m : Mode) → Answer (PointerIn m) (Note m) (CallIn m) → (ReplyIn m → Next (PointerIn m) (Note m))
+    → (Scalar (PointerIn m) → Note m → Acts (CallIn m) (ReplyIn m)) → Acts (CallIn m) (ReplyIn m)
+resolve m (Now onward) tells next = goes m onward next
+resolve m (Ask call) tells next = Asks call (λ reply. goes m (tells reply) next)
 
 -- with this many turns left. `Spent` comes where no turn is left and one would begin.
-abbrev pub acts : {R : Type 0} → ℕ → Tree R → Acts
-acts left (Return r) = Over Finished
-acts left (Stop ending) = Over ending
-acts left Lost = Unknown
-acts left (Print bytes t) = Says bytes (acts left t)
-acts zero (Turn line t) = Over (Spent line)
-acts (suc left) (Turn line t) = Took (acts left t)
+abbrev pub acts : {R : Type 0} → (m : Mode) → Note m → ℕ → Tree (PointerIn m) R → Acts (CallIn m) (ReplyIn m)
+acts m note left (Return r) = Over (ended m note Finished)
+acts m note left (Stop ending) = Over (ended m note ending)
+acts m note left Lost = Unknown
+acts m note left (Print bytes t) = Says bytes (acts m note left t)
+acts m note zero (Turn line t) = Over (ended m note (Spent line))
+acts m note (suc left) (Turn line t) = Took (acts m note left t)
+acts m note left (Point line place u w f) =
+    resolve m (point m note line place u w) (told m note line place u w) (λ v now. acts m now left (f v))
 
--- what was printed, the turns that were used, and the ending
-pub record Progress : Type 0 where
+-- where a worker stands: before a call, or at its end
+pub data End (C : Type 0) : Type 0 where
+  Waits : C → End C
+  Ends : Ending → End C
+  Unseen : End C
+
+-- the calls that were asked, what was printed, the turns that were used, and where it stands
+pub record Progress (C : Type 0) : Type 0 where
+  pub calls : List C
   pub text : List ℕ
   pub turns : ℕ
-  pub ending : Option Ending
+  pub end : End C
 
-abbrev pub progress : Acts → Progress
-progress (Over ending) = record { text = []; turns = 0; ending = Some ending }
-progress Unknown = record { text = []; turns = 0; ending = None }
-progress (Says bytes a) = let p = progress a in record { text = bytes ++ p.text; turns = p.turns; ending = p.ending }
-progress (Took a) = let p = progress a in record { text = p.text; turns = suc p.turns; ending = p.ending }
+abbrev pub is_at : {C : Type 0} → End C → Progress C
+is_at end = record { calls = []; text = []; turns = 0; end = end }
+
+abbrev pub said : {C : Type 0} → List ℕ → Progress C → Progress C
+said bytes p = record { calls = p.calls; text = bytes ++ p.text; turns = p.turns; end = p.end }
+
+abbrev pub took : {C : Type 0} → Progress C → Progress C
+took p = record { calls = p.calls; text = p.text; turns = suc p.turns; end = p.end }
+
+abbrev pub asked : {C : Type 0} → C → Progress C → Progress C
+asked call p = record { calls = call ∷ p.calls; text = p.text; turns = p.turns; end = p.end }
+
+-- how far it comes with these replies
+abbrev pub feed : {C A : Type 0} → List A → Acts C A → Progress C
+feed replies (Over ending) = is_at (Ends ending)
+feed replies Unknown = is_at Unseen
+feed replies (Says bytes a) = said bytes (feed replies a)
+feed replies (Took a) = took (feed replies a)
+feed [] (Asks call f) = is_at (Waits call)
+feed (reply ∷ replies) (Asks call f) = asked call (feed replies (f reply))
+
+-- It waits for a reply, or has ended.
+abbrev pub IsSeen : {C : Type 0} → End C → Type 0
+IsSeen (Waits call) = Unit {0}
+IsSeen (Ends ending) = Unit {0}
+IsSeen Unseen = ⊥
+
+-- It has come as far, or further; where it has ended, it stays as it is.
+pub record Extends {C : Type 0} (p q : Progress C) : Type 0 where
+  pub more_calls : List C
+  pub calls : q.calls ≡ p.calls ++ more_calls
+  pub more_text : List ℕ
+  pub text : q.text ≡ p.text ++ more_text
+  pub turns : p.turns ≤ q.turns
+  pub ended : (ending : Ending) → p.end ≡ Ends ending → q ≡ p

@@ -1,5 +1,6 @@
 pub mod Typed
 pub mod Tree
+pub mod Points
 pub mod Acts
 pub mod Values
 pub mod Meaning

@@ -4,12 +4,14 @@
 mod laws;
 mod names;
 mod record;
+mod scalar;
 mod tree;
 mod typing;
 
-pub use c_parser::{Operator, Text};
-pub use laws::{law_ended, law_spent, law_turns_looked_at};
+pub use c_parser::{Operator, Pointer, Target, Text};
+pub use laws::{law_ended, law_prefix, law_spent, law_turns_looked_at, law_wants};
 pub use names::{NameError, find_entry};
-pub use record::{Ending, Record, Setting};
+pub use record::{Ending, Record, Report, Setting};
+pub use scalar::{CheckedPointer, Scalar};
 pub use tree::{Expression, Function, Program, Statement};
 pub use typing::typed;

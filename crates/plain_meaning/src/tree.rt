@@ -1,6 +1,6 @@
-//! The typed tree of a program of whole numbers.
+//! The typed tree of a program of numbers and pointers.
 
-use c_parser::{Operator, Text};
+use c_parser::{Operator, Pointer, Target, Text};
 use sqlite_items::{Boxed, Items};
 
 /// An expression of type `int`. A variable has its place among the variables in scope, the outermost first.
@@ -9,16 +9,29 @@ pub enum Expression {
     Variable(u32),
     Number(i32),
     Binary(Operator, Boxed<Expression>, Boxed<Expression>),
+    /// The element of a pointer at an index.
+    Element(Pointer, Boxed<Expression>),
 }
 
-/// A declaration makes the next variable, a loop has the line of its `while`.
+/// Each statement has the line of its first token first, a block none. A declaration makes the next variable.
 #[derive(Debug, Drop)]
 pub enum Statement {
     Block(Items<Statement>),
-    Declaration(Expression),
-    Assignment(u32, Expression),
+    Declaration(u32, Expression),
+    /// A pointer to a new object: what it points to, and the object's size in bytes.
+    Allocation(u32, Target, u32),
+    /// A pointer to a target, converted from another.
+    PointerDeclaration(u32, Target, Pointer),
+    Assignment(u32, u32, Expression),
+    /// The second pointer, converted to the first one's type.
+    PointerAssignment(u32, Pointer, Pointer),
+    /// The pointer, the index and the value.
+    ElementAssignment(u32, Pointer, Expression, Expression),
+    Free(u32, Pointer),
+    If(u32, Expression, Boxed<Statement>),
+    IfElse(u32, Expression, Boxed<Statement>, Boxed<Statement>),
     While(u32, Expression, Boxed<Statement>),
-    Print(Expression),
+    Print(u32, Expression),
 }
 
 #[derive(Debug, Drop)]

@@ -38,23 +38,65 @@ fn typed_statement(alloc: Global, statement: &SyntaxStatement) -> Result<Stateme
     ensures { IfOk result (λ typed. typed ≡ spec.typed_statement statement.now) }
 {
     match statement {
-        SyntaxStatement::Block(_, all) => Ok(Statement::Block(typed_statements(
-            alloc,
-            all.as_slice(),
-        )?)),
-        SyntaxStatement::Declaration(_, _, value) => {
-            Ok(Statement::Declaration(typed_expression(alloc, value)?))
+        SyntaxStatement::Block(_, all) => {
+            let all = typed_statements(alloc, all.as_slice())?;
+            Ok(Statement::Block(all))
         }
-        SyntaxStatement::Assignment(_, variable, value) => {
-            Ok(Statement::Assignment(*variable, typed_expression(alloc, value)?))
+        SyntaxStatement::Declaration(place, _, value) => {
+            let value = typed_expression(alloc, value)?;
+            Ok(Statement::Declaration(place.line, value))
+        }
+        SyntaxStatement::Allocation(place, _, target, size) => {
+            Ok(Statement::Allocation(place.line, *target, *size))
+        }
+        SyntaxStatement::PointerDeclaration(place, _, target, source) => {
+            Ok(Statement::PointerDeclaration(place.line, *target, *source))
+        }
+        SyntaxStatement::Assignment(place, variable, value) => {
+            let value = typed_expression(alloc, value)?;
+            Ok(Statement::Assignment(place.line, *variable, value))
+        }
+        SyntaxStatement::PointerAssignment(place, pointer, source) => {
+            Ok(Statement::PointerAssignment(place.line, *pointer, *source))
+        }
+        SyntaxStatement::ElementAssignment(place, pointer, index, value) => {
+            let index = typed_expression(alloc, index)?;
+            let value = typed_expression(alloc, value)?;
+            Ok(Statement::ElementAssignment(place.line, *pointer, index, value))
+        }
+        SyntaxStatement::Free(place, pointer) => Ok(Statement::Free(place.line, *pointer)),
+        SyntaxStatement::If(place, test, then) => {
+            let test = typed_expression(alloc, test)?;
+            let then = typed_part(alloc, then)?;
+            Ok(Statement::If(place.line, test, then))
+        }
+        SyntaxStatement::IfElse(place, test, then, otherwise) => {
+            let test = typed_expression(alloc, test)?;
+            let then = typed_part(alloc, then)?;
+            let otherwise = typed_part(alloc, otherwise)?;
+            Ok(Statement::IfElse(place.line, test, then, otherwise))
         }
         SyntaxStatement::While(place, test, body) => {
             let test = typed_expression(alloc, test)?;
-            let body = typed_statement(alloc, body.get())?;
-            Ok(Statement::While(place.line, test, Boxed::new(alloc, body)?))
+            let body = typed_part(alloc, body)?;
+            Ok(Statement::While(place.line, test, body))
         }
-        SyntaxStatement::Print(_, value) => Ok(Statement::Print(typed_expression(alloc, value)?)),
+        SyntaxStatement::Print(place, value) => {
+            let value = typed_expression(alloc, value)?;
+            Ok(Statement::Print(place.line, value))
+        }
     }
+}
+
+#[cycle(statements)]
+fn typed_part(
+    alloc: Global,
+    statement: &Boxed<SyntaxStatement>,
+) -> Result<Boxed<Statement>, AllocError>
+    ensures { IfOk result (λ typed. typed ≡ spec.typed_statement statement.now) }
+{
+    let typed = typed_statement(alloc, statement.get())?;
+    Boxed::new(alloc, typed)
 }
 
 #[cycle(statements)]
@@ -74,6 +116,7 @@ fn typed_expression(alloc: Global, expression: &SyntaxExpression) -> Result<Expr
     match expression {
         SyntaxExpression::Name(_, variable) => Ok(Expression::Variable(*variable)),
         SyntaxExpression::Number(_, number) => Ok(Expression::Number(*number)),
+        SyntaxExpression::Parentheses(_, inner) => typed_expression(alloc, inner.get()),
         SyntaxExpression::Binary(_, operator, left, right) => {
             let left = typed_expression(alloc, left.get())?;
             let right = typed_expression(alloc, right.get())?;
@@ -82,6 +125,10 @@ fn typed_expression(alloc: Global, expression: &SyntaxExpression) -> Result<Expr
                 Boxed::new(alloc, left)?,
                 Boxed::new(alloc, right)?,
             ))
+        }
+        SyntaxExpression::Element(_, pointer, index) => {
+            let index = typed_expression(alloc, index.get())?;
+            Ok(Expression::Element(*pointer, Boxed::new(alloc, index)?))
         }
     }
 }
