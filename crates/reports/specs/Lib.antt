@@ -1,0 +1,4 @@
+pub mod TypeNames
+pub mod Objects
+pub mod Lines
+pub mod Meant

@@ -1,0 +1,11 @@
+-- What the slots and the objects of the code mean.
+use Rattle.heap_model.specs.Regions as regions
+use Rattle.heap_model.specs.Answers.{Name}
+use Rattle.reports.specs.declared.slot.Slot.{Slot}
+use Rattle.reports.specs.declared.object.Object.{Object}
+
+abbrev pub slot_meant : Slot → regions.Slot
+slot_meant s = record { region = s.region; number = s.number }
+
+abbrev pub name_of : Object → Name
+name_of o = record { slot = slot_meant o.slot; version = o.version; worker = o.worker; number = o.number }

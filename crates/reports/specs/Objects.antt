@@ -1,0 +1,67 @@
+-- The objects that a history placed, and where a pointer is from their first bytes.
+use Rattle.std.specs.Prelude.{◌≡◌, ℕ, ◌^◌, ◌≤◌, nat_lt, Bool, if◌then◌else◌, List, ◌++◌, length, filter, find, codes, Option, Some, None, option_map, pos, ◌-ℤ◌, ℤ}
+use Rattle.std.specs.List.{filter_map}
+use Rattle.std.specs.Fmt.{decimal, signed_decimal}
+use Rattle.heap_model.specs.Regions.{slot_of, address_of, version_of, offset_in}
+use Rattle.heap_model.specs.Heap.{empty, made_count}
+use Rattle.heap_model.specs.Answers.{Name, names}
+use Rattle.heap_model.specs.Preference.{Preference}
+use Rattle.heap_model.specs.Legal.{IsLegal, replay}
+use Rattle.heap_model.specs.declared.calls.Call.{Call}
+use Rattle.heap_model.specs.declared.calls.Call.TheVariants.{Alloc}
+use Rattle.heap_model.specs.declared.calls.Reply.{Reply}
+use Rattle.heap_model.specs.declared.calls.Reply.TheVariants.{Placed}
+use Rattle.heap_model.specs.declared.calls.Reach.{Reach}
+use Rattle.heap_model.specs.declared.calls.Entry.{Entry}
+
+-- the name of the object that is placed by a worker's call of this number
+abbrev pub name_in : ℕ → ℕ → Call → Reply → Option Name
+name_in worker number (Alloc elem size fixed) (Placed word) =
+    option_map (λ s. record { slot = s; version = version_of word; worker = worker; number = number }) (slot_of (address_of word))
+name_in worker number _ _ = None
+
+abbrev pub placed_name : Entry → Option Name
+placed_name e = name_in e.worker e.number e.call e.reply
+
+-- the names of the objects that a history placed, in order
+abbrev pub placed_names : List Entry → List Name
+placed_names history = filter_map placed_name history
+
+-- The object that a word names by an anchor: the one that was placed in the anchor's slot as the word's version.
+unfoldable pub object_named : List Entry → ℕ → ℕ → Option Name
+object_named history anchor word = find (names anchor word) (placed_names history)
+
+-- The objects that a legal history placed are those of the heap that it leaves, live and dead: of each kind as many.
+abbrev pub PlacedLaw : Type 0
+PlacedLaw =
+    (preferred : Preference) (history : List Entry) → IsLegal preferred history → (is : Name → Bool) →
+    length (filter is (placed_names history)) ≡ made_count is (replay empty history)
+
+-- A word names at most one object of a legal history by an anchor.
+abbrev pub OneNamedLaw : Type 0
+OneNamedLaw =
+    (preferred : Preference) (history : List Entry) → IsLegal preferred history → (anchor word : ℕ) →
+    length (filter (names anchor word) (placed_names history)) ≤ 1
+
+-- how far the address of a word is behind the first byte of an object, or behind address 0, modulo 2^40
+abbrev pub distance : Option Name → ℕ → ℕ
+distance None word = address_of word
+distance (Some name) word = offset_in name.slot (address_of word)
+
+-- an offset modulo 2^40 as the nearest one to 0
+abbrev pub signed_offset : ℕ → ℤ
+signed_offset k = if nat_lt k (2 ^ 39) then pos k else pos k -ℤ pos (2 ^ 40)
+
+abbrev pub offset_shown : Option Name → ℕ → List ℕ
+offset_shown object word = signed_decimal (signed_offset (distance object word))
+
+abbrev pub object_shown : Option Name → List ℕ
+object_shown None = codes "none"
+object_shown (Some name) = codes "object " ++ decimal name.worker ++ codes "#" ++ decimal name.number
+
+abbrev pub place_shown : Option Name → ℕ → List ℕ
+place_shown object word = object_shown object ++ codes " offset " ++ offset_shown object word
+
+-- a reach, as offsets
+abbrev pub bounds_shown : Option Name → Reach → List ℕ
+bounds_shown object reach = codes " bounds " ++ offset_shown object reach.lo ++ codes " " ++ offset_shown object reach.hi

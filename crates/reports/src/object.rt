@@ -1,0 +1,74 @@
+//! The objects that a history placed.
+
+ghost use Rattle.std.specs.Prelude.{◌≡◌, ◌∷◌, [], option_map, find, Some};
+ghost use Rattle.std.specs.List.{filter_map};
+ghost use Rattle.heap_model.specs.Regions as regions;
+ghost use Rattle.heap_model.specs.Answers.{is_at};
+ghost use Rattle.reports.specs.Objects as spec;
+ghost use Rattle.reports.specs.Meant.{slot_meant, name_of};
+
+use crate::slot::Slot;
+use heap_model::{Call, Entry, History, Reply, address_of, region_of, slot_number, version_of};
+
+/// An object: its slot, its version there, and the worker and the number of the call that placed it.
+#[derive(Clone, Copy)]
+pub struct Object {
+    pub slot: Slot,
+    pub version: u32,
+    pub worker: u32,
+    pub number: u64,
+}
+
+/// The slot that an address is in.
+fn slot_of(address: u64) -> Option<Slot>
+    ensures { option_map slot_meant result ≡ regions.slot_of address }
+{
+    let region = region_of(address)?;
+    let number = slot_number(address)?;
+    Some(Slot { region, number })
+}
+
+/// The object that an entry placed.
+fn placed(entry: &Entry) -> Option<Object>
+    ensures { option_map name_of result ≡ spec.placed_name entry.now }
+{
+    match (entry.call, entry.reply) {
+        (Call::Alloc { .. }, Reply::Placed(word)) => {
+            let slot = slot_of(address_of(word))?;
+            Some(Object {
+                slot,
+                version: version_of(word),
+                worker: entry.worker,
+                number: entry.number,
+            })
+        }
+        _ => None,
+    }
+}
+
+/// The object that an entry placed, if it is in this slot and has this version.
+fn placed_as(entry: &Entry, slot: Slot, version: u32) -> Option<Object>
+    ensures { option_map name_of result ≡ find (is_at (Some (slot_meant slot)) version) (filter_map spec.placed_name (entry.now ∷ [])) }
+{
+    let object = placed(entry)?;
+    if object.slot == slot && object.version == version {
+        Some(object)
+    } else {
+        None
+    }
+}
+
+/// The object that a word names by an anchor, if the history placed it.
+pub fn object_named(history: &History, anchor: u64, word: u64) -> Option<Object>
+    ensures { option_map name_of result ≡ spec.object_named history.now.entries anchor word }
+{
+    let slot = slot_of(anchor)?;
+    let version = version_of(word);
+    for at in 0..history.len() {
+        let found = placed_as(&history.get(at), slot, version);
+        if found.is_some() {
+            return found;
+        }
+    }
+    None
+}

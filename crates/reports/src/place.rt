@@ -1,0 +1,91 @@
+//! Where a pointer is: the object that it names, and the offset in it.
+
+ghost use Rattle.std.specs.Prelude.{◌≡◌, ◌++◌, ◌<◌, ◌^◌, OnOk, option_map};
+ghost use Rattle.reports.specs.Objects as spec;
+ghost use Rattle.reports.specs.Meant.{name_of};
+
+use crate::object::Object;
+use heap_model::{Reach, address_of, offset_of};
+use plain_meaning::Text;
+use std::alloc::{AllocError, Global};
+
+/// The first address that no word has, and the offsets' modulus.
+const ADDRESSES: i64 = 1 << 40;
+
+/// How far a word's address is behind the first byte of an object, or behind address 0, modulo 2^40.
+#[tactic(auto, using(crate::proofs::Distances::address_below, crate::proofs::Distances::offset_below))]
+fn distance(object: Option<Object>, word: u64) -> u64
+    ensures exact { result ≡ spec.distance (option_map name_of object) word }
+    ensures below { result < 2 ^ 40 }
+{
+    match object {
+        Some(object) => offset_of(object.slot.region, object.slot.number, address_of(word)),
+        None => address_of(word),
+    }
+}
+
+/// The same as a signed offset.
+fn offset(object: Option<Object>, word: u64) -> i64
+    ensures { result ≡ spec.signed_offset (spec.distance (option_map name_of object) word) }
+{
+    let behind = distance(object, word) as i64;
+    if behind < ADDRESSES / 2 {
+        behind
+    } else {
+        behind - ADDRESSES
+    }
+}
+
+fn append_offset(
+    alloc: Global,
+    to: &mut Text,
+    object: Option<Object>,
+    word: u64,
+) -> Result<(), AllocError>
+    ensures { OnOk result (to.new ≡ to.old ++ spec.offset_shown (option_map name_of object) word) }
+{
+    to.append(offset(object, word).to_string(alloc)?.as_bytes())
+}
+
+fn append_object(alloc: Global, to: &mut Text, object: Option<Object>) -> Result<(), AllocError>
+    ensures { OnOk result (to.new ≡ to.old ++ spec.object_shown (option_map name_of object)) }
+{
+    match object {
+        None => to.append(b"none"),
+        Some(object) => {
+            to.append(b"object ")?;
+            to.append(object.worker.to_string(alloc)?.as_bytes())?;
+            to.append(b"#")?;
+            to.append(object.number.to_string(alloc)?.as_bytes())
+        }
+    }
+}
+
+/// Adds the object and the offset of a word's address in it.
+pub fn append_place(
+    alloc: Global,
+    to: &mut Text,
+    object: Option<Object>,
+    word: u64,
+) -> Result<(), AllocError>
+    ensures { OnOk result (to.new ≡ to.old ++ spec.place_shown (option_map name_of object) word) }
+{
+    append_object(alloc, to, object)?;
+    to.append(b" offset ")?;
+    append_offset(alloc, to, object, word)
+}
+
+/// Adds a reach as offsets.
+pub fn append_bounds(
+    alloc: Global,
+    to: &mut Text,
+    object: Option<Object>,
+    reach: Reach,
+) -> Result<(), AllocError>
+    ensures { OnOk result (to.new ≡ to.old ++ spec.bounds_shown (option_map name_of object) reach) }
+{
+    to.append(b" bounds ")?;
+    append_offset(alloc, to, object, reach.lo)?;
+    to.append(b" ")?;
+    append_offset(alloc, to, object, reach.hi)
+}
