@@ -1,3 +1,8 @@
-pub mod StepLemmas
-pub mod LoopLemmas
-pub mod WorkerLemmas
+pub mod Passing
+pub mod Places
+pub mod Operands
+pub mod Declared
+pub mod Loops
+pub mod Branches
+pub mod Workers
+pub mod Words

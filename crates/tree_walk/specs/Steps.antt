@@ -1,50 +1,113 @@
 -- What a step of the walk does, beside what the program means.
-use Rattle.std.specs.Prelude.{◌≡◌, ℕ, ℤ, ◌≤◌, List, ◌++◌, Option, Some}
+use Rattle.std.specs.Prelude.{◌≡◌, ℕ, Bool, ◌≤◌, List, ◌++◌, Result, Ok, Err}
+use Rattle.std.specs.List.{AllByRecursion}
+use Rattle.heap_model.specs.declared.calls.Call.{Call}
+use Rattle.heap_model.specs.declared.calls.Reply.{Reply}
+use Rattle.heap_model.specs.declared.calls.Reply.TheVariants.{Report}
+use Rattle.heap_model.specs.declared.calls.Entry.{Entry}
 use Rattle.plain_meaning.specs.declared.record.Ending.{Ending}
-use Rattle.plain_meaning.specs.declared.record.Ending.TheVariants as ending
+use Rattle.plain_meaning.specs.declared.record.Ending.TheVariants.{Finished}
+use Rattle.plain_meaning.specs.declared.scalar.Scalar.{Scalar}
+use Rattle.plain_meaning.specs.declared.scalar.CheckedPointer.{CheckedPointer}
 use Rattle.plain_meaning.specs.declared.tree.Expression.{Expression}
-use Rattle.plain_meaning.specs.Tree.{Tree}
-use Rattle.plain_meaning.specs.Acts.{acts, progress}
-use Rattle.plain_meaning.specs.Values.{Variables}
-use Rattle.plain_meaning.specs.Meaning.{Does, expression}
-use Rattle.tree_walk.specs.declared.walk.Flow.{Flow}
-use Rattle.tree_walk.specs.declared.walk.Flow.TheVariants.{On, Spent}
+use Rattle.plain_meaning.specs.declared.tree.Statement.{Statement}
+use Rattle.plain_meaning.specs.Tree.{Tree, Place, Stop, Point}
+use Rattle.plain_meaning.specs.Points.{Go, Halt, Onward, Ask, pointer_of, reach_at, want_at, checked, checked_told}
+use Rattle.plain_meaning.specs.Acts.{End, feed}
+use Rattle.plain_meaning.specs.Values.{Variables, is_true}
+use Rattle.plain_meaning.specs.Meaning.{expression, statement}
+use Rattle.plain_meaning.specs.Run.{checked_acts, calls_of, replies_of}
+use Rattle.tree_walk.specs.declared.reports.Subject.{Subject}
+use Rattle.tree_walk.specs.declared.stop.Stop.{Stop as Stopped}
+use Rattle.tree_walk.specs.declared.stop.Stop.TheVariants.{Ended, Memory}
 use Rattle.tree_walk.specs.declared.walk.Walk.{Walk}
 
 abbrev pub Events : Type 0
-Events = Tree (Unit {0})
+Events = Tree CheckedPointer (Unit {0})
 
--- An expression does nothing but go on with this value.
-abbrev pub HasValue : Expression → Variables → ℤ → Type 0
-HasValue e variables v = (next : ℤ → Events) → expression e variables next ≡ next v
-
--- what is seen of a worker: all that it prints, and how it ends
+-- what is seen of a worker: all calls that it asks, all that it prints, and where it stands
 pub record Seen : Type 0 where
+  pub calls : List Call
   pub text : List ℕ
-  pub ending : Option Ending
+  pub end : End Call
 
--- with this text printed, as many turns left, and this to do
-abbrev pub seen : List ℕ → ℕ → Events → Seen
-seen text left tree =
-    let p = progress (acts left tree) in
-    record { text = text ++ p.text; ending = p.ending }
+-- after these entries and this text, with as many turns left and this to do, and with these replies to come
+abbrev pub seen : List Entry → List ℕ → ℕ → Events → List Reply → Seen
+seen entries text left tree replies =
+    let p = feed replies (checked_acts left tree) in
+    record { calls = calls_of entries ++ p.calls; text = text ++ p.text; end = p.end }
 
-abbrev pub ahead : Walk → Events → Seen
-ahead walk tree = seen walk.text walk.left tree
+abbrev pub ahead : Walk → Events → List Reply → Seen
+ahead walk tree replies = seen walk.heaps walk.text walk.left tree replies
 
--- From one state of the walk, what is to be done leads to another, and what follows goes on there; or it ends there, spent on
--- a line.
-abbrev pub Leads : Walk → Does (Unit {0}) → Flow → Walk → Type 0
-Leads old does On new =
-    (next : Variables → Events) → ahead old (does old.variables.items next) ≡ ahead new (next new.variables.items)
-Leads old does (Spent line) new =
-    (next : Variables → Events) → ahead old (does old.variables.items next) ≡ record { text = new.text; ending = Some (ending.Spent line) }
+-- From one state with this to do the walk came to another with that to do: the history grew by entries of worker 1, and
+-- whatever replies are to come, their replies before these lead to the same.
+pub record Passes (old : Walk) (t : Events) (new : Walk) (u : Events) : Type 0 where
+  pub more : List Entry
+  pub grown : new.heaps ≡ old.heaps ++ more
+  pub of_one : AllByRecursion (λ e. e.worker ≡ 1) more
+  pub same : (replies : List Reply) → ahead old t (replies_of more ++ replies) ≡ ahead new u replies
 
--- the same, whatever number of turns is looked at, as long as none that is left is missed
-abbrev pub LeadsFor : Walk → (ℕ → Does (Unit {0})) → Flow → Walk → Type 0
-LeadsFor old does flow new = (n : ℕ) → old.left ≤ n → Leads old (does n) flow new
+-- What does something with a value leads there: what follows goes on with the value, or the worker has ended.
+abbrev pub Leads : {A B : Type 0} → Walk → ((B → Events) → Events) → (A → B) → Result A Stopped → Walk → Type 0
+Leads {B = B} old does value (Ok x) new = (next : B → Events) → Passes old (does next) new (next (value x))
+Leads {B = B} old does value (Err (Ended ending)) new = (next : B → Events) → Passes old (does next) new (Stop ending)
+Leads old does value (Err (Memory error)) new = Unit {0}
+
+abbrev pub no_value : {A : Type 0} → A → Unit {0}
+no_value x = tt
+
+abbrev pub itself : {A : Type 0} → A → A
+itself x = x
+
+-- a test, of which what follows needs only whether it holds
+abbrev pub tested : ℕ → Expression → Variables CheckedPointer → (Bool → Events) → Events
+tested line test variables next = expression line test variables (λ v. next (is_true v))
+
+-- ---- calls
+
+abbrev pub IsNoReport : Reply → Type 0
+IsNoReport (Report kind) = ⊥
+IsNoReport reply = Unit {0}
+
+-- how a point goes on
+abbrev pub onward : (Scalar CheckedPointer → Events) → Onward → Events
+onward f (Go v note) = f v
+onward f (Halt ending note) = Stop ending
+
+-- what a report at a point is about
+pub record IsAbout (subject : Subject) (place : Place) (p : CheckedPointer) : Type 0 where
+  pub word : subject.word ≡ p.word
+  pub reach : subject.reach ≡ reach_at place p
+  pub want : subject.want ≡ want_at place
+
+-- A call was made: each point that asks it goes on from its reply, or the worker has ended by a report.
+abbrev pub Asked : Walk → Call → Subject → Result Reply Stopped → Walk → Type 0
+Asked old call subject (Ok reply) new =
+    (place : Place) (u w : Scalar CheckedPointer) (f : Scalar CheckedPointer → Events) → checked tt subject.line place u w ≡ Ask call →
+    Passes old (Point subject.line place u w f) new (onward f (checked_told tt subject.line place u w reply))
+Asked old call subject (Err (Ended ending)) new =
+    (place : Place) (u w : Scalar CheckedPointer) (f : Scalar CheckedPointer → Events) → checked tt subject.line place u w ≡ Ask call →
+    IsAbout subject place (pointer_of u) → Passes old (Point subject.line place u w f) new (Stop ending)
+Asked old call subject (Err (Memory error)) new = Unit {0}
+
+-- ---- what is kept
+
+pub record Fewer (old new : Walk) : Type 0 where
+  pub left : new.left ≤ old.left
+
+-- The variables are as they were, and no turns are won.
+pub record Keeps (old new : Walk) : Type 0 where
+  pub variables : new.variables ≡ old.variables
+  pub left : new.left ≤ old.left
+
+-- A statement leads there, whatever number of turns is looked at, as long as none that is left is missed.
+abbrev pub Walks : Walk → Statement → Result (Unit {0}) Stopped → Walk → Type 0
+Walks old x result new =
+    (n : ℕ) → old.left ≤ n → Leads old (statement n x old.variables.items) (λ done. new.variables.items) result new
 
 -- how a worker ends whose function is left so
-abbrev pub ending_of : Flow → Ending
-ending_of On = ending.Finished
-ending_of (Spent line) = ending.Spent line
+abbrev pub EndsAs : Result (Unit {0}) Stopped → Ending → Type 0
+EndsAs (Ok done) ending = ending ≡ Finished
+EndsAs (Err (Ended e)) ending = ending ≡ e
+EndsAs (Err (Memory error)) ending = ⊥

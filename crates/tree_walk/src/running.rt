@@ -1,22 +1,25 @@
 //! The run of a program.
 
 ghost use Rattle.std.specs.Prelude.{◌≡◌, ◌<◌, length, Some, IfOk};
-ghost use Rattle.plain_meaning.specs.Acts.{acts, progress};
+ghost use Rattle.std.specs.List.{AllByRecursion};
 ghost use Rattle.plain_meaning.specs.Meaning.{body_of};
-ghost use Rattle.plain_meaning.specs.Run.{Run};
-ghost use Rattle.tree_walk.specs.Steps as steps;
+ghost use Rattle.plain_meaning.specs.Run.{Run, Worked, checked_acts};
+ghost use Rattle.tree_walk.specs.Steps.{EndsAs};
 
-use crate::walk::{Flow, Walk};
+use crate::stop::Stop;
+use crate::walk::Walk;
 use c_parser::Text;
 use plain_meaning::{Ending, Function, Program, Record, Setting};
+use region_heaps::{RegionHeaps, law_history};
 use sqlite_items::Items;
 use std::alloc::{AllocError, Global};
 
-/// How a worker ended, and what it printed.
-#[derive(Debug, Drop)]
+/// How a worker ended, what it printed, and the heaps with the calls that it made.
+#[derive(Drop)]
 struct Outcome {
     ending: Ending,
     text: Text,
+    heaps: RegionHeaps,
 }
 
 /// The record of a run of a program, from its start to its end. Each of the workers may take as many turns as the setting says.
@@ -33,27 +36,36 @@ pub fn run(alloc: Global, program: &Program, setting: &Setting) -> Result<Record
     texts.push(Text::new(alloc))?;
     texts.push(outcome.text)?;
     texts.push(Text::new(alloc))?;
-    Ok(Record { endings, texts })
+    law_history(&outcome.heaps);
+    Ok(Record {
+        history: outcome.heaps.into_history(),
+        endings,
+        texts,
+    })
 }
 
 /// What a worker does that runs this function.
 fn worker(alloc: Global, function: &Function, turns: u32) -> Result<Outcome, AllocError>
-    ensures ending { IfOk result (λ outcome. (progress (acts turns (body_of turns (Some function.now)))).ending ≡ Some outcome.ending) }
-    ensures text { IfOk result (λ outcome. (progress (acts turns (body_of turns (Some function.now)))).text ≡ outcome.text) }
+    ensures worked { IfOk result (λ outcome. Worked (checked_acts turns (body_of turns (Some function.now))) outcome.heaps outcome.ending outcome.text) }
+    ensures alone { IfOk result (λ outcome. AllByRecursion (λ e. e.worker ≡ 1) outcome.heaps) }
 {
-    let mut walk = Walk::new(alloc, turns);
-    let flow = walk.statement(alloc, &function.body)?;
+    let mut walk = Walk::new(alloc, turns)?;
+    let left = walk.statement(alloc, &function.body);
+    let ending = ending_of(left)?;
     Ok(Outcome {
-        ending: ending_of(flow),
+        ending,
         text: walk.text,
+        heaps: walk.heaps,
     })
 }
 
-fn ending_of(flow: Flow) -> Ending
-    ensures { result ≡ steps.ending_of flow }
+/// The ending of a worker whose function is left so, unless memory is wanted.
+fn ending_of(left: Result<(), Stop>) -> Result<Ending, AllocError>
+    ensures { IfOk result (λ ending. EndsAs left ending) }
 {
-    match flow {
-        Flow::On => Ending::Finished,
-        Flow::Spent(line) => Ending::Spent(line),
+    match left {
+        Ok(()) => Ok(Ending::Finished),
+        Err(Stop::Ended(ending)) => Ok(ending),
+        Err(Stop::Memory(error)) => Err(error),
     }
 }

@@ -1,170 +1,86 @@
 //! A worker on its way through the typed tree.
 
-ghost use Rattle.std.specs.Prelude.{◌≡◌, ℕ, ◌-◌, ◌<◌, ◌≤◌, ◌↔◌, [], IsTrue, IfOk, map};
-ghost use Rattle.plain_meaning.specs.declared.tree.Statement.TheVariants as s;
-ghost use Rattle.plain_meaning.specs.Meaning as meaning;
-ghost use Rattle.tree_walk.specs.declared.walk.Flow.TheVariants.{On};
-ghost use Rattle.tree_walk.specs.Steps.{HasValue, LeadsFor};
+ghost use Rattle.std.specs.Prelude.{◌≡◌, ◌-◌, ◌<◌, [], ◌++◌, true, IsSome, IfOk, OnOk};
+ghost use Rattle.c_types.specs.Table.{basic_types};
+ghost use Rattle.heap_model.specs.Forms.{fits_call, suits_call};
+ghost use Rattle.heap_model.specs.Forms as forms;
+ghost use Rattle.typed_heap.specs.Takes.{KnowsTypes, moves_numbers};
+ghost use Rattle.plain_meaning.specs.Meaning.{number_line};
+ghost use Rattle.plain_meaning.specs.Tree.{Turn};
+ghost use Rattle.tree_walk.specs.Steps.{Leads, Asked, IsNoReport, no_value};
 
-use crate::operators::{is_true, operate};
+use crate::reports::Subject;
+use crate::stop::Stop;
 use c_parser::Text;
-use plain_meaning::{Expression, Statement};
+use heap_model::{Call, Reply};
+use plain_meaning::{CheckedPointer, Ending, Scalar};
+use region_heaps::RegionHeaps;
 use std::alloc::{AllocError, Global};
 
-/// How a statement is left: what follows it goes on, or the turns were spent on this line.
-#[derive(Clone, Copy, Debug)]
-pub(crate) enum Flow {
-    On,
-    Spent(u32),
-}
+/// The worker whose calls the walk makes.
+const WORKER: u32 = 1;
 
-/// The variables in scope, what was printed, and how many turns are left.
-#[derive(Debug, Drop)]
+/// The variables in scope, what was printed, how many turns are left, and the heaps with the history of all calls.
+#[derive(Drop)]
 pub(crate) struct Walk {
-    variables: Vec<i32>,
+    pub(crate) variables: Vec<Scalar<CheckedPointer>>,
     pub(crate) text: Text,
-    left: u32,
+    pub(crate) left: u32,
+    pub(crate) heaps: RegionHeaps,
 }
 
 impl Walk {
-    pub(crate) fn new(alloc: Global, turns: u32) -> Walk
-        ensures variables { result.variables.items ≡ [] }
-        ensures text { result.text ≡ [] }
-        ensures left { result.left ≡ turns }
+    pub(crate) fn new(alloc: Global, turns: u32) -> Result<Walk, AllocError>
+        ensures variables { IfOk result (λ walk. walk.variables.items ≡ []) }
+        ensures text { IfOk result (λ walk. walk.text ≡ []) }
+        ensures left { IfOk result (λ walk. walk.left ≡ turns) }
+        ensures heaps { IfOk result (λ walk. walk.heaps ≡ []) }
     {
-        Walk {
+        Ok(Walk {
             variables: Vec::new(alloc),
             text: Text::new(alloc),
             left: turns,
-        }
+            heaps: RegionHeaps::new(alloc)?,
+        })
     }
 
-    /// Takes a turn, where one is left.
-    fn turn(&mut self) -> bool
-        ensures taken { IsTrue result ↔ 0 < self.old.left }
+    /// Takes a turn on a line, where one is left.
+    pub(crate) fn turn(&mut self, line: u32) -> Result<(), Stop>
+        ensures leads { Leads self.old (λ next. Turn line (next tt)) no_value result self.new }
         ensures after { self.new ≡ record self.old { left = self.old.left - 1 } }
+        ensures taken { OnOk result (self.new.left < self.old.left) }
     {
         if self.left == 0 {
-            return false;
+            return Err(Stop::Ended(Ending::Spent(line)));
         }
         self.left -= 1;
-        true
-    }
-
-    fn value(&self, expression: &Expression) -> i32
-        ensures { HasValue expression.now self.now.variables.items result }
-    {
-        match expression {
-            Expression::Variable(variable) => self
-                .variables
-                .get(*variable as usize)
-                .copied()
-                .unwrap_or(0),
-            Expression::Number(number) => *number,
-            Expression::Binary(operator, left, right) => {
-                let a = self.value(left.get());
-                let b = self.value(right.get());
-                operate(*operator, a, b)
-            }
-        }
-    }
-
-    /// It goes as deep as statements nest, which the parser bounds.
-    #[cycle(walk)]
-    pub(crate) fn statement(
-        &mut self,
-        alloc: Global,
-        statement: &Statement,
-    ) -> Result<Flow, AllocError>
-        ensures leads { IfOk result (λ flow. LeadsFor self.old (λ n. meaning.statement n statement.now) flow self.new) }
-        ensures fewer { self.new.left ≤ self.old.left }
-    {
-        match statement {
-            Statement::Block(all) => self.block(alloc, all.as_slice()),
-            Statement::Declaration(value) => {
-                self.declare(value)?;
-                Ok(Flow::On)
-            }
-            Statement::Assignment(variable, value) => {
-                self.assign(*variable, value);
-                Ok(Flow::On)
-            }
-            Statement::While(line, test, body) => self.repeat(alloc, *line, body.get(), test),
-            Statement::Print(value) => {
-                self.print(alloc, value)?;
-                Ok(Flow::On)
-            }
-        }
-    }
-
-    /// At its end the variables of the block go out of scope.
-    #[cycle(walk)]
-    fn block(&mut self, alloc: Global, all: &[Statement]) -> Result<Flow, AllocError>
-        ensures leads { IfOk result (λ flow. LeadsFor self.old (λ n. meaning.statement n (s.Block all.now)) flow self.new) }
-        ensures fewer { self.new.left ≤ self.old.left }
-    {
-        let outside = self.variables.len();
-        for statement in all {
-            if let Flow::Spent(line) = self.statement(alloc, statement)? {
-                return Ok(Flow::Spent(line));
-            }
-        }
-        self.variables.truncate(outside);
-        Ok(Flow::On)
-    }
-
-    /// A loop takes a turn before each of its tests.
-    #[cycle(walk)]
-    fn repeat(
-        &mut self,
-        alloc: Global,
-        line: u32,
-        body: &Statement,
-        test: &Expression,
-    ) -> Result<Flow, AllocError>
-        ensures leads { IfOk result (λ flow. LeadsFor self.old (λ n. meaning.statement n (s.While line test.now body.now)) flow self.new) }
-        ensures fewer { self.new.left ≤ self.old.left }
-    {
-        while self.turn() {
-            if !is_true(self.value(test)) {
-                return Ok(Flow::On);
-            }
-            if let Flow::Spent(at) = self.statement(alloc, body)? {
-                return Ok(Flow::Spent(at));
-            }
-        }
-        Ok(Flow::Spent(line))
-    }
-
-    /// A new variable is zero while its first value is evaluated.
-    fn declare(&mut self, value: &Expression) -> Result<(), AllocError>
-        ensures leads { IfOk result (λ _. LeadsFor self.old (λ n. meaning.statement n (s.Declaration value.now)) On self.new) }
-        ensures same { self.new.left ≡ self.old.left }
-    {
-        let variable = self.variables.len();
-        self.variables.push(0)?;
-        let value = self.value(value);
-        self.variables[variable] = value;
         Ok(())
     }
 
-    fn assign(&mut self, variable: u32, value: &Expression)
-        ensures leads { LeadsFor self.old (λ n. meaning.statement n (s.Assignment variable value.now)) On self.new }
-        ensures same { self.new.left ≡ self.old.left }
+    /// Prints a number and the end of a line.
+    pub(crate) fn print_line(&mut self, alloc: Global, value: i32) -> Result<(), AllocError>
+        ensures { OnOk result (self.new ≡ record self.old { text = self.old.text ++ number_line value }) }
     {
-        let value = self.value(value);
-        if (variable as usize) < self.variables.len() {
-            self.variables[variable as usize] = value;
-        }
-    }
-
-    fn print(&mut self, alloc: Global, value: &Expression) -> Result<(), AllocError>
-        ensures leads { IfOk result (λ _. LeadsFor self.old (λ n. meaning.statement n (s.Print value.now)) On self.new) }
-        ensures same { self.new.left ≡ self.old.left }
-    {
-        let line = self.value(value).to_string(alloc)?;
-        self.text.append(line.as_bytes())?;
+        let digits = value.to_string(alloc)?;
+        self.text.append(digits.as_bytes())?;
         self.text.push(b'\n')?;
         Ok(())
+    }
+
+    /// Makes a call on the heap. A report ends the worker.
+    pub(crate) fn ask(&mut self, call: &Call, subject: &Subject) -> Result<Reply, Stop>
+        requires region { IsSome (forms.region_for call.now) }
+        requires fits { fits_call call.now ≡ true }
+        requires numbers { moves_numbers call.now ≡ true }
+        requires types { KnowsTypes basic_types call.now }
+        ensures asked { Asked self.old call.now subject.now result self.new }
+        ensures suits { IfOk result (λ reply. suits_call call.now reply ≡ true) }
+        ensures told { IfOk result (λ reply. IsNoReport reply) }
+        ensures others { self.new ≡ record self.old { heaps = self.new.heaps } }
+    {
+        match self.heaps.call(WORKER, call)? {
+            Reply::Report(kind) => Err(Stop::Ended(Ending::Reported(subject.report(kind)))),
+            reply => Ok(reply),
+        }
     }
 }

@@ -1,16 +1,14 @@
-use Rattle.std.proofs.Common.{Some, ap, sym, ◌∙◌}
-use Rattle.tree_walk.specs.Steps.{Seen}
-use Rattle.tree_walk.proofs.WorkerLemmas.{worked}
+use Rattle.tree_walk.proofs.Workers.{worked_out}
 use Rattle.tree_walk.proofs.running.worker.Goals as goal
 
-pub returns-clause-ending : goal.returns-clause-ending
-returns-clause-ending c =
-    let new = c.new-walk.ensures in
-    ap (λ (seen : Seen). seen.ending) (worked c.new-walk.result c.statement.new.self c.args.turns c.args.function.now.body _ new.variables new.text new.left
-    (c.in_ok-flow.ensures {u = tt}).leads) ∙ ap Some (sym c.ending_of.ensures)
+pub returns-clause-worked : goal.returns-clause-worked
+returns-clause-worked c =
+    let new = c.in_ok-walk.ensures {u = tt} in
+    (worked_out c.in_ok-walk.walk c.statement-left.new.self c.args.turns c.args.function.now c.statement-left.result c.in_ok-ending.ending
+    (record { variables = new.variables; text = new.text; left = new.left; heaps = new.heaps }) c.statement-left.ensures.walks (c.in_ok-ending.ensures {u = tt})).worked
 
-pub returns-clause-text : goal.returns-clause-text
-returns-clause-text c =
-    let new = c.new-walk.ensures in
-    ap (λ (seen : Seen). seen.text) (worked c.new-walk.result c.statement.new.self c.args.turns c.args.function.now.body _ new.variables new.text new.left
-    (c.in_ok-flow.ensures {u = tt}).leads)
+pub returns-clause-alone : goal.returns-clause-alone
+returns-clause-alone c =
+    let new = c.in_ok-walk.ensures {u = tt} in
+    (worked_out c.in_ok-walk.walk c.statement-left.new.self c.args.turns c.args.function.now c.statement-left.result c.in_ok-ending.ending
+    (record { variables = new.variables; text = new.text; left = new.left; heaps = new.heaps }) c.statement-left.ensures.walks (c.in_ok-ending.ensures {u = tt})).alone

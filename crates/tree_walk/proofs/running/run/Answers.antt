@@ -1,0 +1,19 @@
+use Rattle.std.proofs.Common.{length, refl, sym, ap, ◌∙◌, arith, rules}
+use Rattle.std.proofs.lemmas.Option.{slice_get_read}
+use Rattle.std.specs.Prelude.{slice_get}
+use Rattle.tree_walk.proofs.Workers.{run_is}
+use Rattle.tree_walk.proofs.running.run.Goals as goal
+
+pub returns : goal.returns
+returns c =
+    let program = c.args.program.now in
+    let setting = c.args.setting.now in
+    let functions = c.as_slice.result.now in
+    let f = c.index-as_slice-setting.result in
+    let outcome = c.in_ok-outcome.outcome in
+    let ensured = c.in_ok-outcome.ensures {u = tt} in
+    let law = c.law_history.ensures in
+    run_is program setting _ f outcome.heaps outcome.ending outcome.text c.into_history.ensures
+    (ap (λ all. slice_get all setting.entry) (sym c.as_slice.ensures)
+    ∙ slice_get_read functions (length functions) setting.entry f refl (omega (arith, ap length c.as_slice.ensures)) c.index-as_slice-setting.is)
+    ensured.worked ensured.alone law.legal law.numbered law.stamped (search rules) (search rules)
