@@ -1,5 +1,5 @@
 -- What the code of the top call keeps between its steps.
-use Rattle.std.specs.Prelude.{◌≡◌, ℕ, ◌≤◌, ◌⊎◌, List, [], ◌∷◌, length, Option, Some, None, IfSome}
+use Rattle.std.specs.Prelude.{◌≡◌, ℕ, ◌≤◌, List, length, Option, Some, None, IfSome}
 use Rattle.plain_meaning.specs.declared.record.Record.{Record}
 use Rattle.plain_meaning.specs.declared.tree.Program.{Program}
 use Rattle.plain_meaning.specs.Names.{IsEntry, HasNone}
@@ -7,13 +7,34 @@ use Rattle.plain_meaning.specs.Run.{Run}
 use Rattle.effsan_top.specs.Streams.{max_text}
 use Rattle.effsan_top.specs.Words.{Words, entry_of}
 use Rattle.effsan_top.specs.Programs.{IsProgram, HasNoProgram}
+use Rattle.effsan_top.specs.declared.lexical.LexicalFault.{LexicalFault}
+use Rattle.effsan_top.specs.declared.program.ProgramError.{ProgramError}
+use Rattle.effsan_top.specs.declared.program.ProgramError.TheVariants as error
+use Rattle.effsan_top.specs.Lexical.{IsUnreadable, HasTokens}
 use Rattle.effsan_top.specs.Lines as line
-use Rattle.effsan_top.specs.Causes.{IsTooLarge, Accepts, setting_of}
+use Rattle.effsan_top.specs.Causes.{IsTooLarge, setting_of}
 
 -- The program of a text, and no other is.
 pub record IsOnlyProgram (text : List ℕ) (program : Program) : Type 0 where
   pub is : IsProgram text program
   pub only : (other : Program) → IsProgram text other → other ≡ program
+  pub readable : (f : LexicalFault) (line : ℕ) → IsUnreadable text f line → ⊥
+
+-- The text has no tokens, so that it has no program.
+pub record IsUnlexed (text : List ℕ) (f : LexicalFault) (line : ℕ) : Type 0 where
+  pub unreadable : IsUnreadable text f line
+  pub unread : HasNoProgram text
+
+-- The text has tokens, but no program.
+pub record IsForeign (text : List ℕ) : Type 0 where
+  pub tokens : HasTokens text
+  pub unread : HasNoProgram text
+
+-- Why a text has no program.
+abbrev pub HasProgramCause : List ℕ → ProgramError → Type 0
+HasProgramCause text error.Memory = Unit {0}
+HasProgramCause text (error.Lexical f line) = IsUnlexed text f line
+HasProgramCause text error.NotYet = IsForeign text
 
 -- The record is that of the one program of the text, run from the function of this name.
 pub record RunsText (name text : List ℕ) (run : Record) : Type 0 where
@@ -31,7 +52,8 @@ pub record LacksName (name text : List ℕ) : Type 0 where
 
 -- Why a text that was read whole gives no run.
 abbrev pub HasTextCause : List ℕ → List ℕ → line.Refusal → Type 0
-HasTextCause name text line.NotYet = HasNoProgram text
+HasTextCause name text (line.Lexical f l) = IsUnlexed text f l
+HasTextCause name text line.NotYet = IsForeign text
 HasTextCause name text (line.NotFound missing) = (missing ≡ name) × LacksName name text
 HasTextCause name text line.OutOfMemory = Unit {0}
 HasTextCause name text _ = ⊥
@@ -44,7 +66,8 @@ OfRead left P = IfSome left (λ text. (length text ≤ max_text) × P text)
 abbrev pub HasReadCause : List ℕ → Option (List ℕ) → Type 0 → line.Refusal → Type 0
 HasReadCause name left read line.ReadFault = read
 HasReadCause name left read line.TooLarge = IfSome left IsTooLarge
-HasReadCause name left read line.NotYet = OfRead left HasNoProgram
+HasReadCause name left read (line.Lexical f l) = OfRead left (λ text. IsUnlexed text f l)
+HasReadCause name left read line.NotYet = OfRead left IsForeign
 HasReadCause name left read (line.NotFound missing) = (missing ≡ name) × OfRead left (LacksName name)
 HasReadCause name left read line.OutOfMemory = Unit {0}
 HasReadCause name left read _ = ⊥

@@ -1,16 +1,19 @@
 -- When each answer comes.
-use Rattle.std.specs.Prelude.{◌≡◌, ℕ, ◌<◌, ◌≤◌, ◌⊎◌, Bool, ◌||◌, ◌==◌, List, [], ◌∷◌, length, Option, Some, None, IfSome}
+use Rattle.std.specs.Prelude.{◌≡◌, ℕ, ◌<◌, ◌≤◌, ◌⊎◌, List, [], ◌∷◌, length, Option, Some, None, IfSome}
 use Rattle.plain_meaning.specs.declared.record.Ending.{Ending}
-use Rattle.plain_meaning.specs.declared.record.Ending.TheVariants.{Finished, Spent}
 use Rattle.plain_meaning.specs.declared.record.Setting.{Setting}
 use Rattle.plain_meaning.specs.declared.record.Record.{Record}
 use Rattle.plain_meaning.specs.declared.tree.Program.{Program}
 use Rattle.plain_meaning.specs.Names.{IsEntry, HasNone}
+use Rattle.plain_meaning.specs.Acts.{Ends}
 use Rattle.plain_meaning.specs.Run.{Run, worker}
 use Rattle.effsan_top.specs.Streams.{max_text}
 use Rattle.effsan_top.specs.Words.{Words, entry_of}
 use Rattle.effsan_top.specs.Programs.{IsProgram, HasNoProgram}
-use Rattle.effsan_top.specs.Lines.{Refusal, Words as Unbuilt, ReadFault, TooLarge, NotYet, NotFound, OutOfMemory, WriteFault}
+use Rattle.effsan_top.specs.Statuses.{IsAnswered, IsOrFault, run_status}
+use Rattle.effsan_top.specs.Lines.{Refusal, Words as Unbuilt, ReadFault, TooLarge, Lexical, NotYet, NotFound, OutOfMemory, WriteFault}
+use Rattle.effsan_top.specs.declared.lexical.LexicalFault.{LexicalFault}
+use Rattle.effsan_top.specs.Lexical.{IsUnreadable, HasTokens}
 
 -- how many turns a worker may take
 abbrev pub max_turns : ℕ
@@ -30,9 +33,18 @@ pub record Accepts (name text : List ℕ) (program : Program) (entry : ℕ) : Ty
   pub read : IsProgram text program
   pub named : IsEntry program name entry
 
--- The text is outside the language.
+-- The text has no tokens, for this fault on this line.
+pub record IsUnread (text : List ℕ) (f : LexicalFault) (line : ℕ) : Type 0 where
+  pub fits : length text ≤ max_text
+  pub unreadable : IsUnreadable text f line
+
+abbrev pub HasFault : List ℕ → Type 0
+HasFault text = (f : LexicalFault) × (line : ℕ) × IsUnread text f line
+
+-- The text has tokens, and is outside the language.
 pub record IsOutside (text : List ℕ) : Type 0 where
   pub fits : length text ≤ max_text
+  pub tokens : HasTokens text
   pub unread : HasNoProgram text
 
 -- The text has a program, without a function of the name.
@@ -43,21 +55,14 @@ pub record LacksEntry (name text : List ℕ) : Type 0 where
   pub missing : HasNone program name
 
 abbrev pub IsRefused : List ℕ → List ℕ → Type 0
-IsRefused name text = IsOutside text ⊎ LacksEntry name text
+IsRefused name text = HasFault text ⊎ (IsOutside text ⊎ LacksEntry name text)
 
--- The entry runs, and ends so.
-pub record Ends (name text : List ℕ) (ending : Ending) : Type 0 where
+-- The entry asks the heap for nothing, and ends so.
+pub record EndsAlone (name text : List ℕ) (ending : Ending) : Type 0 where
   pub program : Program
   pub entry : ℕ
   pub accepted : Accepts name text program entry
-  pub ended : (worker program (setting_of entry)).ending ≡ Some ending
-
-abbrev pub Finishes : List ℕ → List ℕ → Type 0
-Finishes name text = Ends name text Finished
-
--- it uses up its turns
-abbrev pub Stops : List ℕ → List ℕ → Type 0
-Stops name text = (line : ℕ) × Ends name text (Spent line)
+  pub ended : (worker program (setting_of entry) []).end ≡ Ends ending
 
 -- The record is that of the text's program, run from the entry of this name.
 pub record HasRun (name text : List ℕ) (run : Record) : Type 0 where
@@ -68,30 +73,13 @@ pub record HasRun (name text : List ℕ) (run : Record) : Type 0 where
 
 -- ---- statuses
 
--- the run has an answer, written whole
-abbrev pub is_answer : ℕ → Bool
-is_answer status = (status == 0) || (status == 8)
-
--- something ran
-abbrev pub is_run : ℕ → Bool
-is_run status = is_answer status || (status == 5)
-
--- The status comes exactly where the cause holds, but that a read fault or want of memory may come in its place.
-abbrev pub Exactly : ℕ → ℕ → Type 0 → Type 0
-Exactly expected status cause = (status ≡ expected → cause) × (cause → (status ≡ expected) ⊎ ((status ≡ 4) ⊎ (status ≡ 6)))
-
--- The same, but that a write fault may come in its place too.
-abbrev pub ExactlyWritten : ℕ → ℕ → Type 0 → Type 0
-ExactlyWritten expected status cause =
-    (status ≡ expected → cause) × (cause → (status ≡ expected) ⊎ ((status ≡ 5) ⊎ ((status ≡ 4) ⊎ (status ≡ 6))))
-
--- The status of a run: 0 or 8, but that a read fault, want of memory or a write fault may come in its place.
-abbrev pub IsAnswered : ℕ → Type 0
-IsAnswered status = (status ≡ 0) ⊎ ((status ≡ 8) ⊎ ((status ≡ 5) ⊎ ((status ≡ 4) ⊎ (status ≡ 6))))
-
 -- a text that is accepted has an answer
 abbrev pub AnswersAccepted : ℕ → List ℕ → List ℕ → Type 0
 AnswersAccepted status name text = (program : Program) (entry : ℕ) → Accepts name text program entry → IsAnswered status
+
+-- Where the entry asks the heap for nothing, the text fixes the status.
+abbrev pub AnswersAlone : ℕ → List ℕ → List ℕ → Type 0
+AnswersAlone status name text = (ending : Ending) → EndsAlone name text ending → IsOrFault (run_status (ending ∷ [])) status
 
 -- what is said of the name of an accepted command, and of the text, where the source tells it
 abbrev pub OfText : Words → Option (List ℕ) → (List ℕ → List ℕ → Type 0) → Type 0
@@ -104,6 +92,7 @@ abbrev pub HasCause : Words → Option (List ℕ) → Type 0 → Type 0 → Refu
 HasCause words left read written Unbuilt = entry_of words ≡ None
 HasCause words left read written ReadFault = read
 HasCause words left read written TooLarge = IfSome left IsTooLarge
+HasCause words left read written (Lexical f line) = IfSome left (λ text. IsUnread text f line)
 HasCause words left read written NotYet = IfSome left IsOutside
 HasCause words left read written (NotFound name) = (entry_of words ≡ Some name) × IfSome left (LacksEntry name)
 HasCause words left read written OutOfMemory = Unit {0}
@@ -113,15 +102,6 @@ HasCause words left read written WriteFault = written
 
 -- a record of no run
 pub record IsEmpty (run : Record) : Type 0 where
+  pub history : run.history.entries ≡ []
   pub endings : run.endings ≡ []
   pub texts : run.texts ≡ []
-
--- the statuses there are
-abbrev pub is_status : ℕ → Bool
-is_status status = is_run status || ((status == 2) || ((status == 3) || ((status == 4) || ((status == 6) || (status == 7)))))
-
--- the status of a run: 0 where each worker finished, else 8
-abbrev pub run_status : List Ending → ℕ
-run_status [] = 0
-run_status (Finished ∷ endings) = run_status endings
-run_status (Spent line ∷ endings) = 8

@@ -1,7 +1,10 @@
 pub mod Streams
 pub mod Words
+pub mod Lexical
 pub mod Programs
 pub mod Lines
+pub mod Statuses
+pub mod Histories
 pub mod Causes
 pub mod Refusals
 pub mod Answers

@@ -7,7 +7,7 @@ use Rattle.c_parser.specs.Grammar.{Derives}
 use Rattle.plain_meaning.specs.declared.tree.Program.{Program}
 use Rattle.plain_meaning.specs.Typed.{typed_program}
 
--- The text is cut into tokens, which derive a unit, whose typed tree is the program.
+-- The text is cut into tokens, which derive a unit, which has a typed tree: the program.
 pub record IsProgram (text : List ℕ) (program : Program) : Type 0 where
   pub tokens : List Token
   pub lexed : Tokens text tokens

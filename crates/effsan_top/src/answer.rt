@@ -1,9 +1,12 @@
 //! The answer to words and a source, before anything is written.
 
 ghost use Rattle.std.specs.Prelude.{◌≡◌, ◌≤◌, length, map, IfOk, IfErr, string_bytes};
+ghost use Rattle.std.specs.List.{list_any};
+ghost use Rattle.heap_model.specs.Legal.{IsLegal};
+ghost use Rattle.plain_meaning.specs.Run.{preferred};
 ghost use Rattle.effsan_top.specs.Streams.{Rose};
 ghost use Rattle.effsan_top.specs.Lines as spec;
-ghost use Rattle.effsan_top.specs.Causes.{run_status};
+ghost use Rattle.effsan_top.specs.Statuses.{is_reported, is_spent, run_status};
 ghost use Rattle.effsan_top.specs.Answers.{RunsText, RunsFor, HasTextCause, HasNoRunFor};
 ghost use Rattle.effsan_top.specs.Refusals.{seen};
 
@@ -13,7 +16,7 @@ use crate::refusal::Refusal;
 use crate::source::Source;
 use crate::transfer::read_all;
 use crate::words::entry;
-use plain_meaning::{Ending, Record, Setting, Text, find_entry};
+use plain_meaning::{Ending, Record, Setting, Text, find_entry, law_wants};
 use std::alloc::Global;
 use tree_walk::run;
 
@@ -31,6 +34,7 @@ pub struct Answer {
 fn answer_text<'a>(alloc: Global, name: &'a [u8], text: &[u8]) -> Result<Answer, Refusal<'a>>
     requires { length text.now ≤ 1048576 }
     ensures run { IfOk result (λ answer. RunsText name.now text.now answer.run) }
+    ensures legal { IfOk result (λ answer. IsLegal preferred answer.run.history.entries) }
     ensures text { IfOk result (λ answer. answer.text ≡ spec.printed answer.run) }
     ensures refused { IfErr result (λ refusal. HasTextCause name.now text.now (seen refusal)) }
 {
@@ -43,6 +47,7 @@ fn answer_text<'a>(alloc: Global, name: &'a [u8], text: &[u8]) -> Result<Answer,
         turns: MAX_TURNS,
     };
     let run = run(alloc, &program, &setting)?;
+    law_wants();
     let text = printed(alloc, &run)?;
     Ok(Answer { run, text })
 }
@@ -54,6 +59,7 @@ pub fn answer_words<'a, S: Source>(
     src: &mut S,
 ) -> Result<Answer, Refusal<'a>>
     ensures run { IfOk result (λ answer. RunsFor (map string_bytes words.now) (S.left src.old) answer.run) }
+    ensures legal { IfOk result (λ answer. IsLegal preferred answer.run.history.entries) }
     ensures text { IfOk result (λ answer. answer.text ≡ spec.printed answer.run) }
     ensures refused { IfErr result (λ refusal. HasNoRunFor (map string_bytes words.now) (S.left src.old) (Rose (S.faults src.old) (S.faults src.new)) (seen refusal)) }
 {
@@ -64,14 +70,38 @@ pub fn answer_words<'a, S: Source>(
     answer_text(alloc, name, text.as_slice())
 }
 
-/// The status of a run: 0 where each worker finished, else 8.
+fn some_reported(endings: &[Ending]) -> bool
+    ensures { result ≡ list_any is_reported endings.now }
+{
+    for ending in endings {
+        if let Ending::Reported(_) = ending {
+            return true;
+        }
+    }
+    false
+}
+
+fn some_spent(endings: &[Ending]) -> bool
+    ensures { result ≡ list_any is_spent endings.now }
+{
+    for ending in endings {
+        if let Ending::Spent(_) = ending {
+            return true;
+        }
+    }
+    false
+}
+
+/// The status of a run: 1 where some worker was reported, else 8 where some used up its turns, else 0.
 pub fn status(run: &Record) -> u8
     ensures { result ≡ run_status run.now.endings }
 {
-    for ending in run.endings.as_slice() {
-        if let Ending::Spent(_) = ending {
-            return 8;
-        }
+    let endings = run.endings.as_slice();
+    if some_reported(endings) {
+        1
+    } else if some_spent(endings) {
+        8
+    } else {
+        0
     }
-    0
 }

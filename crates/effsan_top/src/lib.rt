@@ -3,6 +3,7 @@
 
 mod answer;
 mod calm;
+mod lexical;
 mod lines;
 mod memory;
 mod outside;
@@ -17,7 +18,7 @@ mod words;
 pub use calm::{CalmSink, CalmSource};
 pub use memory::{MemSink, MemSource};
 pub use outside::{InSource, OutSink};
-pub use plain_meaning::{Ending, Record, Text};
+pub use plain_meaning::{Ending, Record, Report, Text};
 pub use sink::Sink;
 pub use source::{Failed, Source};
 pub use still::{Finished, effsan_still};

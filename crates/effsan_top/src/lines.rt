@@ -1,41 +1,27 @@
 //! What is printed of a run.
 
-ghost use Rattle.std.specs.Prelude.{◌≡◌, IfOk, OnOk, ◌++◌};
+ghost use Rattle.std.specs.Prelude.{◌≡◌, IfOk};
+ghost use Rattle.std.specs.List.{AllByRecursion};
+ghost use Rattle.c_types.specs.Table.{basic_types};
+ghost use Rattle.reports.specs.Lines.{KnowsType};
 ghost use Rattle.effsan_top.specs.Lines as spec;
 
-use plain_meaning::{Ending, Record, Text};
+use c_types::TypeTable;
+use plain_meaning::{Record, Text};
+use reports::ending_lines;
 use std::alloc::{AllocError, Global};
-
-fn append_ending(
-    alloc: Global,
-    to: &mut Text,
-    worker: usize,
-    ending: Ending,
-) -> Result<(), AllocError>
-    ensures { OnOk result (to.new ≡ to.old ++ spec.ending_line worker ending) }
-{
-    match ending {
-        Ending::Finished => Ok(()),
-        Ending::Spent(line) => {
-            to.append(b"worker ")?;
-            to.append(worker.to_string(alloc)?.as_bytes())?;
-            to.append(b": line ")?;
-            to.append(line.to_string(alloc)?.as_bytes())?;
-            to.append(b": Spent\n")
-        }
-    }
-}
 
 /// The texts of a run in order, then a line for each ending that is not `Finished`.
 pub fn printed(alloc: Global, run: &Record) -> Result<Text, AllocError>
+    requires { AllByRecursion (KnowsType basic_types) run.now.endings }
     ensures { IfOk result (λ text. text ≡ spec.printed run.now) }
 {
     let mut all = Text::new(alloc);
     for text in run.texts.as_slice() {
         all.append(text.bytes())?;
     }
-    for (worker, ending) in run.endings.as_slice().iter().enumerate() {
-        append_ending(alloc, &mut all, worker, *ending)?;
-    }
+    let types = TypeTable::new(alloc)?;
+    let lines = ending_lines(alloc, run, &types)?;
+    all.append(lines.bytes())?;
     Ok(all)
 }

@@ -1,14 +1,18 @@
 //! Why there is no answer, and the line that says so.
 
-ghost use Rattle.std.specs.Prelude.{◌≡◌, ◌++◌, codes, OnOk, OnErr};
+ghost use Rattle.std.specs.Prelude.{◌≡◌, ◌≤◌, ◌++◌, codes, OnOk, OnErr};
 ghost use Rattle.effsan_top.specs.declared.refusal.Refusal.TheVariants.{OutOfMemory};
 ghost use Rattle.effsan_top.specs.Streams.{Rose, Appends, AppendsSome};
-ghost use Rattle.effsan_top.specs.Lines.{status_of, line_of};
+ghost use Rattle.std.specs.Fmt.{decimal};
+ghost use Rattle.effsan_top.specs.Lexical.{fault_name};
+ghost use Rattle.effsan_top.specs.Lines.{status_of, line_of, lexical_line};
 
+use crate::lexical::LexicalFault;
 use crate::program::ProgramError;
 use crate::sink::Sink;
 use crate::source::Failed;
 use crate::transfer::{ReadError, write_all};
+use itoa::Buffer;
 use std::alloc::AllocError;
 
 /// Why there is no answer, or only a part of it. A name that no function has is the one that the words give.
@@ -17,6 +21,7 @@ pub enum Refusal<'a> {
     Words,
     ReadFault,
     TooLarge,
+    Lexical(LexicalFault, usize),
     NotYet,
     NotFound(&'a [u8]),
     OutOfMemory,
@@ -39,6 +44,7 @@ impl From<ProgramError> for Refusal<'_> {
     fn from(error: ProgramError) -> Self {
         match error {
             ProgramError::Memory => Refusal::OutOfMemory,
+            ProgramError::Lexical(fault, line) => Refusal::Lexical(fault, line),
             ProgramError::NotYet => Refusal::NotYet,
         }
     }
@@ -67,7 +73,7 @@ impl Refusal<'_> {
     {
         match self {
             Refusal::Words => 2,
-            Refusal::NotYet | Refusal::NotFound(_) => 3,
+            Refusal::Lexical(..) | Refusal::NotYet | Refusal::NotFound(_) => 3,
             Refusal::ReadFault => 4,
             Refusal::WriteFault => 5,
             Refusal::OutOfMemory => 6,
@@ -85,12 +91,55 @@ impl Refusal<'_> {
             Refusal::Words => write_all(err, b"effsan: words: NotYet\n"),
             Refusal::ReadFault => write_all(err, b"effsan: read fault\n"),
             Refusal::TooLarge => write_all(err, b"effsan: source too large\n"),
+            Refusal::Lexical(fault, line) => write_lexical(err, fault, line),
             Refusal::NotYet => write_all(err, b"effsan: NotYet\n"),
             Refusal::NotFound(name) => write_missing(err, name),
             Refusal::OutOfMemory => write_all(err, b"effsan: out of memory\n"),
             Refusal::WriteFault => write_all(err, b"effsan: write fault\n"),
         }
     }
+}
+
+/// Writes one text and then another.
+fn write_both<E: Sink>(err: &mut E, first: &[u8], second: &[u8]) -> Result<(), Failed>
+    ensures ok { OnOk result (Appends (first.now ++ second.now) (E.taken err.old) (E.taken err.new)) }
+    ensures failed { OnErr result (AppendsSome (first.now ++ second.now) (E.taken err.old) (E.taken err.new)) }
+    ensures cause { OnErr result (Rose (E.faults err.old) (E.faults err.new)) }
+    ensures never_falls { E.faults err.old ≤ E.faults err.new }
+{
+    write_all(err, first)?;
+    write_all(err, second)?;
+    Ok(())
+}
+
+fn write_line_number<E: Sink>(err: &mut E, line: usize) -> Result<(), Failed>
+    ensures ok { OnOk result (Appends (codes "effsan: line " ++ decimal line) (E.taken err.old) (E.taken err.new)) }
+    ensures failed { OnErr result (AppendsSome (codes "effsan: line " ++ decimal line) (E.taken err.old) (E.taken err.new)) }
+    ensures cause { OnErr result (Rose (E.faults err.old) (E.faults err.new)) }
+    ensures never_falls { E.faults err.old ≤ E.faults err.new }
+{
+    let mut digits = Buffer::new();
+    write_both(err, b"effsan: line ", digits.format(line).as_bytes())
+}
+
+fn write_fault_name<E: Sink>(err: &mut E, fault: LexicalFault) -> Result<(), Failed>
+    ensures ok { OnOk result (Appends (codes ": " ++ fault_name fault) (E.taken err.old) (E.taken err.new)) }
+    ensures failed { OnErr result (AppendsSome (codes ": " ++ fault_name fault) (E.taken err.old) (E.taken err.new)) }
+    ensures cause { OnErr result (Rose (E.faults err.old) (E.faults err.new)) }
+    ensures never_falls { E.faults err.old ≤ E.faults err.new }
+{
+    write_both(err, b": ", fault.name())
+}
+
+fn write_lexical<E: Sink>(err: &mut E, fault: LexicalFault, line: usize) -> Result<(), Failed>
+    ensures ok { OnOk result (Appends (lexical_line fault line) (E.taken err.old) (E.taken err.new)) }
+    ensures failed { OnErr result (AppendsSome (lexical_line fault line) (E.taken err.old) (E.taken err.new)) }
+    ensures cause { OnErr result (Rose (E.faults err.old) (E.faults err.new)) }
+{
+    write_line_number(err, line)?;
+    write_fault_name(err, fault)?;
+    write_all(err, b"\n")?;
+    Ok(())
 }
 
 fn write_missing<E: Sink>(err: &mut E, name: &[u8]) -> Result<(), Failed>

@@ -1,11 +1,13 @@
 //! The top call on one thread.
 
-ghost use Rattle.std.specs.Prelude.{◌≡◌, ◌↔◌, ◌⊎◌, true, false, None, map, IsTrue, string_bytes};
+ghost use Rattle.std.specs.Prelude.{◌≡◌, ◌↔◌, ◌⊎◌, ◌&&◌, true, false, not, None, map, IsTrue, string_bytes};
 ghost use Rattle.effsan_top.specs.Streams.{Rose, Appends, AppendsSome, Writes};
 ghost use Rattle.effsan_top.specs.Words.{entry_of};
 ghost use Rattle.effsan_top.specs.Lines as spec;
 ghost use Rattle.effsan_top.specs.Lines.{Refusal as Cause, status_of, line_of};
-ghost use Rattle.effsan_top.specs.Causes.{OfText, Exactly, ExactlyWritten, IsTooLarge, IsRefused, Finishes, Stops, HasRun, HasCause, IsEmpty, AnswersAccepted, is_answer, is_run, is_status, run_status};
+ghost use Rattle.effsan_top.specs.Statuses.{Exactly, all_finished, some_reported, some_spent, is_answer, is_run, is_status, run_status};
+ghost use Rattle.effsan_top.specs.Histories.{FindsPreferred, AccessesInside};
+ghost use Rattle.effsan_top.specs.Causes.{OfText, IsTooLarge, IsRefused, HasRun, HasCause, IsEmpty, AnswersAccepted, AnswersAlone};
 ghost use Rattle.effsan_top.specs.Refusals.{seen};
 
 use crate::answer::{Answer, answer_words, status};
@@ -13,7 +15,8 @@ use crate::refusal::Refusal;
 use crate::sink::Sink;
 use crate::source::Source;
 use crate::transfer::write_all;
-use plain_meaning::Record;
+use heap_model::{History, law_accesses_inside, law_found_preferred};
+use plain_meaning::{Record, law_prefix};
 use sqlite_items::Items;
 use std::alloc::Global;
 
@@ -31,6 +34,7 @@ fn refused<E: Sink>(alloc: Global, refusal: Refusal<'_>, err: &mut E) -> Finishe
 {
     let _ = refusal.write(err);
     let run = Record {
+        history: History::new(alloc),
         endings: Items::new(alloc),
         texts: Items::new(alloc),
     };
@@ -67,7 +71,7 @@ fn written<O: Sink, E: Sink>(answer: Answer, out: &mut O, err: &mut E) -> Finish
 }
 
 /// Serves the words `play --entry NAME`: reads the source to its end, runs the function of that name, and writes what
-/// it prints, and then its ending line, to `out`; a line on `err` says why there is no answer, or only a part of one.
+/// it prints, and then the line of its ending, to `out`; a line on `err` says why there is no answer, or only a part of one.
 /// The clauses on bytes speak where the source and the sinks tell theirs.
 pub fn effsan_still<S: Source, O: Sink, E: Sink>(
     alloc: Global,
@@ -84,14 +88,21 @@ pub fn effsan_still<S: Source, O: Sink, E: Sink>(
     // Each other status has its cause, and comes where that holds.
     ensures too_large { OfText (map string_bytes words.now) (S.left src.old) (λ name text. Exactly 7 result.status (IsTooLarge text)) }
     ensures refused { OfText (map string_bytes words.now) (S.left src.old) (λ name text. Exactly 3 result.status (IsRefused name text)) }
-    ensures finished { OfText (map string_bytes words.now) (S.left src.old) (λ name text. ExactlyWritten 0 result.status (Finishes name text)) }
-    ensures stopped { OfText (map string_bytes words.now) (S.left src.old) (λ name text. ExactlyWritten 8 result.status (Stops name text)) }
     // An accepted text has an answer, but for faults and want of memory.
     ensures accepted { OfText (map string_bytes words.now) (S.left src.old) (λ name text. AnswersAccepted result.status name text) }
+    // Where the function asks the heap for nothing, its ending is fixed by the text, and so is the status.
+    ensures alone { OfText (map string_bytes words.now) (S.left src.old) (λ name text. AnswersAlone result.status name text) }
     ensures status { IsTrue (is_status result.status) }
     // The record is that of the run, and else empty.
     ensures run { is_run result.status ≡ true → OfText (map string_bytes words.now) (S.left src.old) (λ name text. HasRun name text result.run) }
+    // The status of an answer tells the endings of the record.
     ensures ending { is_answer result.status ≡ true → result.status ≡ run_status result.run.endings }
+    ensures finished { is_answer result.status ≡ true → (result.status ≡ 0) ↔ IsTrue (all_finished result.run.endings) }
+    ensures reported { is_answer result.status ≡ true → (result.status ≡ 1) ↔ IsTrue (some_reported result.run.endings) }
+    ensures spent { is_answer result.status ≡ true → (result.status ≡ 8) ↔ IsTrue (not (some_reported result.run.endings) && some_spent result.run.endings) }
+    // Whatever the source tells: what the record says of bounds and accesses.
+    ensures found_preferred { FindsPreferred result.run.history.entries }
+    ensures accesses_inside { AccessesInside result.run.history.entries }
     ensures no_run { is_run result.status ≡ false → IsEmpty result.run }
     // The output took what the run prints, whole or in part, or nothing at all.
     ensures out { is_answer result.status ≡ true → Appends (spec.printed result.run) (O.taken out.old) (O.taken out.new) }
@@ -103,6 +114,9 @@ pub fn effsan_still<S: Source, O: Sink, E: Sink>(
         × Writes (line_of refusal) (E.taken err.old) (E.taken err.new) (Rose (E.faults err.old) (E.faults err.new)) }
     ensures err_none { is_answer result.status ≡ true → err.new ≡ err.old }
 {
+    law_prefix();
+    law_found_preferred();
+    law_accesses_inside();
     match answer_words(alloc, words, src) {
         Ok(answer) => written(answer, out, err),
         Err(refusal) => refused(alloc, refusal, err),

@@ -1,5 +1,6 @@
 use Rattle.std.proofs.lemmas.Option.{slice_get_within}
 use Rattle.std.proofs.lemmas.Result.{err_from_is_err_and}
+use Rattle.effsan_top.proofs.Endings.{knows_types}
 use Rattle.effsan_top.proofs.Outcomes.{program_cause}
 use Rattle.effsan_top.proofs.answer.answer_text.Goals as goal
 
@@ -10,3 +11,6 @@ returns-in_err-program-clause-refused c =
 
 pub run-requires : goal.run-requires
 run-requires c = slice_get_within _ _ c.in-Ok.ensures.named.function c.in-Ok.ensures.named.found
+
+pub printed-requires : goal.printed-requires
+printed-requires c = knows_types c.law_wants.ensures _ _ _ c.in_ok-run.ensures

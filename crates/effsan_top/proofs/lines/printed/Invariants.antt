@@ -4,6 +4,3 @@ use Rattle.effsan_top.proofs.lines.printed.Given as goal
 
 abbrev pub invariant-loop-text : goal.invariant-loop-text
 invariant-loop-text l = l.all ++ spec.joined (drop l.text-index l.text-items) ≡ spec.joined l.run.texts
-
-abbrev pub invariant-loop-worker : goal.invariant-loop-worker
-invariant-loop-worker l = l.all ++ spec.ending_lines l.worker (drop l.worker l.ending-items) ≡ spec.printed l.run
