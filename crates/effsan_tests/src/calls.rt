@@ -1,7 +1,7 @@
 //! Each public call below the top one, on its happy path: with memory to be had, none answers want of it.
 
-use crate::tools::words_of;
-use c_lexer::{Keyword, Kind, LexError, Mark, NumType, Token, lex};
+use crate::tools::{unit_of, words_of};
+use c_lexer::lex;
 use c_parser::{Text, parse};
 use effsan_top::{
     CalmSink, CalmSource, InSource, MemSink, MemSource, OutSink, effsan_still, read_all, write_all,
@@ -9,59 +9,6 @@ use effsan_top::{
 use plain_meaning::{Ending, Setting, find_entry, typed};
 use std::test::Fail;
 use tree_walk::run;
-
-fn token(kind: Kind, start: u32, end: u32, line: u32, first: bool) -> Token {
-    Token {
-        kind,
-        start,
-        end,
-        line,
-        first,
-    }
-}
-
-#[test]
-fn lex_gives_the_longest_tokens(rt: HostRuntime) -> Result<(), Fail> {
-    let tokens = lex(rt.alloc(), b"a+1").map_err(|_| "refused")?;
-    let wanted = [
-        token(Kind::Name, 0, 1, 1, true),
-        token(Kind::Mark(Mark::Plus), 1, 2, 1, false),
-        token(Kind::Number(1, NumType::Int), 2, 3, 1, false),
-    ];
-    assert_eq!(rt; tokens.as_slice(), wanted.as_slice());
-    let tokens = lex(rt.alloc(), b"x--1\n <<=_Bool\n\"%d\\n\"whiles while").map_err(|_| "refused")?;
-    let wanted = [
-        token(Kind::Name, 0, 1, 1, true),
-        token(Kind::Mark(Mark::MinusMinus), 1, 3, 1, false),
-        token(Kind::Number(1, NumType::Int), 3, 4, 1, false),
-        token(Kind::Mark(Mark::ShiftLeftEqual), 6, 9, 2, true),
-        token(Kind::Word(Keyword::Bool), 9, 14, 2, false),
-        token(Kind::Str, 15, 21, 3, true),
-        token(Kind::Name, 21, 27, 3, false),
-        token(Kind::Word(Keyword::While), 28, 33, 3, false),
-    ];
-    assert_eq!(rt; tokens.as_slice(), wanted.as_slice());
-    Ok(())
-}
-
-#[test]
-fn lex_refuses_at_the_first_place(rt: HostRuntime) -> Result<(), Fail> {
-    let cases: [(&[u8], u32); 6] = [
-        (b"@", 0),
-        (b"a b \" c", 4),
-        (b"1 2147483648", 2),
-        (b"a 07", 2),
-        (b"a\r\n", 1),
-        (b"\"%d\"", 0),
-    ];
-    for (text, place) in cases {
-        match lex(rt.alloc(), text) {
-            Err(LexError::NotYet(at)) => assert_eq!(rt; at, place),
-            _ => assert!(rt; false, "not refused"),
-        }
-    }
-    Ok(())
-}
 
 #[test]
 fn a_program_is_read_and_run(rt: HostRuntime) -> Result<(), Fail> {
@@ -83,6 +30,84 @@ fn a_program_is_read_and_run(rt: HostRuntime) -> Result<(), Fail> {
         [Ending::Finished, Ending::Finished].as_slice()
     );
     assert_eq!(rt; done.texts.len(), 3);
+    assert_eq!(rt; done.history.len(), 0);
+    Ok(())
+}
+
+#[test]
+fn pointers_are_read_and_typed(rt: HostRuntime) -> Result<(), Fail> {
+    let bodies: [&str; 17] = [
+        "int *p = malloc(0);",
+        "char *p = malloc(31);",
+        "int*p=malloc(4);",
+        "int * p = malloc ( 4 ) ;",
+        "int *p = malloc(4); free(p);",
+        "int *p = malloc(4); p[0] = 1;",
+        "int *p = malloc(4); int x = p[0] + p[x];",
+        "char *p = malloc(4); p[p[0]] = p[1 + 2] * (p[3]);",
+        "int *p = malloc(4); int *q = (int *)p;",
+        "int *p = malloc(4); char *q = (char*)p;",
+        "char *p = malloc(4); int *q = ( int * ) p;",
+        "char *p = malloc(4); int *q = malloc(4); q = (int *)p;",
+        "int *p = malloc(4); int *q = malloc(4); q=(int*)p;",
+        "int *q = (int *)q;",
+        "int *p = malloc(4); { char *p = malloc(4); int *q = (int *)p; }",
+        "int p = 1; { int *p = malloc(4); free(p); } p = 2;",
+        "if (1) { int *p = malloc(4); } else { char *c = malloc(8); free(c); }",
+    ];
+    for body in bodies {
+        match unit_of(rt.alloc(), body)? {
+            None => assert!(rt; false, "{body}"),
+            Some(unit) => assert_eq!(rt; typed(rt.alloc(), &unit)?.functions.len(), 1),
+        }
+    }
+    Ok(())
+}
+
+#[test]
+fn pointers_have_their_rules(rt: HostRuntime) -> Result<(), Fail> {
+    let bodies: [&str; 33] = [
+        // sizes
+        "int *p = malloc(32);",
+        "int *p = malloc(1 + 1);",
+        "int *p = malloc((4));",
+        "int x = 4; int *p = malloc(x);",
+        "int *p = malloc();",
+        // targets and declarations
+        "short *p = malloc(4);",
+        "void *p = malloc(4);",
+        "unsigned char *p = malloc(4);",
+        "int **p = malloc(8);",
+        "char c = 1;",
+        "int *p;",
+        "int *p = 0;",
+        "int *p = malloc(4), q = 1;",
+        "int *p = malloc(4); int *p = malloc(4);",
+        "int *p = malloc(4); int p = 1;",
+        "int p = 1; int *p = malloc(4);",
+        "if (1) int *p = malloc(4);",
+        "int *free = malloc(4);",
+        // conversions
+        "int *p = malloc(4); int *q = p;",
+        "int *p = malloc(4); int *q = (char *)p;",
+        "int *p = malloc(4); char *q = malloc(4); q = (int *)p;",
+        "int *p = malloc(4); int *q = malloc(4); q = p;",
+        "int *p = malloc(4); p = malloc(4);",
+        "int *p = malloc(4); int *q = (int *)(p);",
+        "int x = 1; int *q = (int *)x;",
+        // a number where a pointer is needed, and a pointer where a number is
+        "int x = 1; x[0] = 1;",
+        "int x = 1; int y = x[0];",
+        "int x = 1; free(x);",
+        "int *p = malloc(4); int x = p;",
+        "int *p = malloc(4); p = 1;",
+        "int *p = malloc(4); if (p) { }",
+        "int *p = malloc(4); *p = 1;",
+        "{ int *p = malloc(4); } free(p);",
+    ];
+    for body in bodies {
+        assert!(rt; unit_of(rt.alloc(), body)?.is_none(), "{body}");
+    }
     Ok(())
 }
 

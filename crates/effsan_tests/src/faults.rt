@@ -28,6 +28,7 @@ fn a_read_that_fails_is_a_read_fault(rt: HostRuntime) -> Result<(), Fail> {
         let mut err = MemSink::new(rt.alloc(), 64, 64, &[], &[])?;
         let done = count(rt.alloc(), &mut src, &mut out, &mut err)?;
         assert_eq!(rt; done.status, 4);
+        assert_eq!(rt; done.run.history.len(), 0);
         assert_eq!(rt; done.run.endings.len(), 0);
         assert_eq!(rt; done.run.texts.len(), 0);
         assert_eq!(rt; out.taken().len(), 0);

@@ -8,9 +8,9 @@ mod faults;
 #[cfg(test)]
 mod form;
 #[cfg(test)]
-mod layout;
-#[cfg(test)]
 mod limits;
+#[cfg(test)]
+mod pointers;
 #[cfg(test)]
 mod runs;
 #[cfg(test)]

@@ -24,10 +24,12 @@ fn nested(
 #[test]
 fn nodes_nest_two_hundred_deep(rt: HostRuntime) -> Result<(), Fail> {
     // the body is one deep; each block or loop is one more; a loop's test is one deeper than it
-    let cases: [(&[u8], u32, &[u8], &[u8]); 3] = [
+    let cases: [(&[u8], u32, &[u8], &[u8]); 5] = [
         (b"{", 199, b"", b"}"),
         (b"while (0)", 198, b"{ }", b""),
         (b"while (0) {", 99, b"{ }", b"}"),
+        (b"if (0)", 198, b"{ }", b""),
+        (b"if (0) { } else ", 198, b"{ }", b""),
     ];
     for (open, times, middle, close) in cases {
         let source = nested(rt.alloc(), open, times, middle, close)?;
@@ -51,6 +53,25 @@ fn nodes_nest_two_hundred_deep(rt: HostRuntime) -> Result<(), Fail> {
 }
 
 #[test]
+fn parentheses_nest_as_deep_as_sums(rt: HostRuntime) -> Result<(), Fail> {
+    // a declaration is two deep, and each pair of parentheses is one more
+    for (pairs, status) in [(197, 0), (198, 3)] {
+        let mut source = Vec::new(rt.alloc());
+        source.extend_from_slice(b"void f(void) { int x = ")?;
+        repeated(rt.alloc(), &mut source, b"(", pairs)?;
+        source.extend_from_slice(b"7")?;
+        repeated(rt.alloc(), &mut source, b")", pairs)?;
+        source.extend_from_slice(b"; printf(\"%d\\n\", x); }")?;
+        let left = play(rt.alloc(), source.as_slice())?;
+        assert_eq!(rt; left.status, status);
+        if status == 0 {
+            assert_eq!(rt; left.out.as_slice(), b"7\n".as_slice());
+        }
+    }
+    Ok(())
+}
+
+#[test]
 fn a_text_has_at_most_a_mebibyte(rt: HostRuntime) -> Result<(), Fail> {
     for (size, status, err) in [
         (1_048_576, 3, "effsan: entry NotFound f\n"),
@@ -67,12 +88,17 @@ fn a_text_has_at_most_a_mebibyte(rt: HostRuntime) -> Result<(), Fail> {
 #[test]
 fn a_text_has_at_most_two_hundred_thousand_tokens(rt: HostRuntime) -> Result<(), Fail> {
     // a function has seven tokens, and an empty block two
-    for (blocks, status) in [(99_996, 0), (99_997, 3)] {
+    for (blocks, status, err) in [
+        (99_996, 0, ""),
+        (99_997, 3, "effsan: line 1: TooManyTokens\n"),
+    ] {
         let mut source = Vec::new(rt.alloc());
         source.extend_from_slice(b"void f(void) {")?;
         repeated(rt.alloc(), &mut source, b"{}", blocks)?;
         source.extend_from_slice(b" }")?;
-        assert_eq!(rt; play(rt.alloc(), source.as_slice())?.status, status);
+        let left = play(rt.alloc(), source.as_slice())?;
+        assert_eq!(rt; left.status, status);
+        assert_eq!(rt; left.err.as_slice(), err.as_bytes());
     }
     Ok(())
 }

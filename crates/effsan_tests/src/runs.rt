@@ -1,7 +1,8 @@
 //! What programs print.
 
-use crate::tools::play;
+use crate::tools::{body_of, play, play_body};
 use effsan_top::Ending;
+use std::alloc::{AllocError, Global};
 use std::test::Fail;
 
 #[test]
@@ -57,6 +58,105 @@ fn programs_print_what_they_mean(rt: HostRuntime) -> Result<(), Fail> {
     Ok(())
 }
 
+/// What `printf` prints of an expression.
+fn printed(alloc: Global, expression: &str) -> Result<Vec<u8>, AllocError> {
+    let source = format!(in alloc; "void f(void) {{ printf(\"%d\\n\", {expression}); }}")?;
+    Ok(play(alloc, source.as_bytes())?.out)
+}
+
+#[test]
+fn operators_group_and_wrap(rt: HostRuntime) -> Result<(), Fail> {
+    let cases: [(&str, i32); 38] = [
+        // each groups to the left
+        ("1 - 2 - 3", -4),
+        ("10 - 4 + 3", 9),
+        ("2 * 3 * 4", 24),
+        ("3 < 2 < 1", 1),
+        ("2 == 2 == 2", 0),
+        ("3 <= 2 < 1", 1),
+        // products bind most, then sums and differences, then orders, then equality
+        ("2 * 3 + 4", 10),
+        ("2 + 3 * 4", 14),
+        ("2 - 3 * 4", -10),
+        ("1 + 1 < 2", 0),
+        ("2 < 1 + 2", 1),
+        ("1 < 2 == 1", 1),
+        ("3 < 2 == 0", 1),
+        ("2 == 1 < 3", 0),
+        ("0 == 3 <= 2", 1),
+        ("1 + 2 * 3 - 4 < 5 == 1", 1),
+        // parentheses
+        ("(7)", 7),
+        ("((7))", 7),
+        ("1 - (2 - 3)", 2),
+        ("2 * (3 + 4)", 14),
+        ("(2 + 3) * 4", 20),
+        ("3 < (2 == 0)", 0),
+        ("(2 == 1) < 3", 1),
+        // comparisons are of signed numbers, and give 1 or 0
+        ("0 - 1 < 1", 1),
+        ("1 < 0 - 1", 0),
+        ("0 - 2 < 0 - 1", 1),
+        ("2 < 2", 0),
+        ("2 <= 2", 1),
+        ("5 == 5", 1),
+        ("5 == 0 - 5", 0),
+        // products, sums and differences wrap
+        ("65536 * 65536", 0),
+        ("2147483647 * 2", -2),
+        ("46341 * 46341", -2147479015),
+        ("2147483647 * 2147483647", 1),
+        ("(0 - 3) * 1431655766", -2),
+        ("0 - 2147483647 - 2", 2147483647),
+        ("0 - (2147483647 + 1)", -2147483648),
+        ("2147483647 + 1 < 0", 1),
+    ];
+    for (expression, value) in cases {
+        let wanted = format!(in rt.alloc(); "{value}\n")?;
+        let found = printed(rt.alloc(), expression)?;
+        assert_eq!(rt; found.as_slice(), wanted.as_bytes(), "{expression}");
+    }
+    Ok(())
+}
+
+#[test]
+fn one_branch_is_run(rt: HostRuntime) -> Result<(), Fail> {
+    let cases: [(&str, &str); 15] = [
+        ("if (1) P(1); P(2);", "1\n2\n"),
+        ("if (0) P(1); P(2);", "2\n"),
+        ("if (1) P(1); else P(2);", "1\n"),
+        ("if (0) P(1); else P(2);", "2\n"),
+        // each value but zero holds
+        ("if (0 - 1) P(1); else P(2);", "1\n"),
+        ("if (2) P(1); else P(2);", "1\n"),
+        ("if (3 - 3) P(1); else P(2);", "2\n"),
+        // an `else` belongs to the nearest `if`
+        ("if (1) if (0) P(1); else P(2);", "2\n"),
+        ("if (0) if (1) P(1); else P(2);", ""),
+        ("if (0) { if (1) P(1); } else P(2);", "2\n"),
+        ("if (1) while (0) { } else P(2);", ""),
+        ("if (0) P(1); else if (0) P(2); else P(3);", "3\n"),
+        // names of a branch end with it
+        (
+            "int x = 1; if (x) { int x = 5; x = 6; } else { x = 7; } P(x);",
+            "1\n",
+        ),
+        ("int x = 0; if (x) { x = 6; } else { x = 7; } P(x);", "7\n"),
+        // in a loop
+        (
+            "int i = 0; while (i < 5) { if (i == 2) P(100 * i); else P(i); i = i + 1; }",
+            "0\n1\n200\n3\n4\n",
+        ),
+    ];
+    for (short, out) in cases {
+        let body = body_of(rt.alloc(), short)?;
+        let left = play_body(rt.alloc(), body.as_str())?;
+        assert_eq!(rt; left.status, 0, "{short}");
+        assert_eq!(rt; left.out.as_slice(), out.as_bytes(), "{short}");
+    }
+    Ok(())
+}
+
 #[test]
 fn a_loop_without_end_is_spent(rt: HostRuntime) -> Result<(), Fail> {
     // the counting program without its step: a million turns, each of them a line
@@ -90,13 +190,22 @@ fn a_loop_without_end_is_spent(rt: HostRuntime) -> Result<(), Fail> {
 
 #[test]
 fn a_million_turns_are_enough_for_a_million_tests(rt: HostRuntime) -> Result<(), Fail> {
-    let cases: [(&str, u8); 2] = [
+    let cases: [(&str, u8); 4] = [
         (
             "void f(void) { int i = 0; while (i <= 999998) i = i + 1; }",
             0,
         ),
         (
             "void f(void) { int i = 0; while (i <= 999999) i = i + 1; }",
+            8,
+        ),
+        // an `if` takes no turn
+        (
+            "void f(void) { int i = 0; while (i < 999999) if (1) i = i + 1; }",
+            0,
+        ),
+        (
+            "void f(void) { int i = 0; while (i < 1000000) if (1) i = i + 1; }",
             8,
         ),
     ];

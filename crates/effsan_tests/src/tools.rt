@@ -1,7 +1,10 @@
 //! What the tests share: a call of the program with everything in memory.
 
+use c_lexer::lex;
+use c_parser::{ParseError, Unit, parse};
 use effsan_top::{MemSink, MemSource, Record, effsan_still};
 use std::alloc::{AllocError, Global};
+use std::test::Fail;
 
 /// What a call left behind.
 #[derive(Drop)]
@@ -39,6 +42,28 @@ pub fn call(alloc: Global, words: &[&str], source: &[u8]) -> Result<Left, AllocE
 /// `play --entry f` on a source.
 pub fn play(alloc: Global, source: &[u8]) -> Result<Left, AllocError> {
     call(alloc, &["play", "--entry", "f"], source)
+}
+
+/// `play --entry f` on a body of `f`.
+pub fn play_body(alloc: Global, body: &str) -> Result<Left, AllocError> {
+    let source = format!(in alloc; "void f(void) {{ {body} }}")?;
+    play(alloc, source.as_bytes())
+}
+
+/// A body in which `P(e)` stands for the call that prints e.
+pub fn body_of(alloc: Global, short: &str) -> Result<String, AllocError> {
+    short.replace(alloc, "P(", "printf(\"%d\\n\", ")
+}
+
+/// The unit of a function `f` with this body, where it has one.
+pub fn unit_of(alloc: Global, body: &str) -> Result<Option<Unit>, Fail> {
+    let text = format!(in alloc; "void f(void) {{ {body} }}")?;
+    let tokens = lex(alloc, text.as_bytes()).map_err(|_| "lex")?;
+    match parse(alloc, text.as_bytes(), tokens.as_slice()) {
+        Ok(unit) => Ok(Some(unit)),
+        Err(ParseError::NotYet) => Ok(None),
+        Err(ParseError::Memory(_)) => Err(Fail::from("memory")),
+    }
 }
 
 /// A text many times over.

@@ -1,0 +1,394 @@
+//! The heap of a region: calls with their replies, in order.
+
+ghost use Rattle.std.specs.Prelude.{◌≡◌, ◌≤◌, IsTrue};
+ghost use Rattle.c_types.specs.Table.{basic_types};
+ghost use Rattle.typed_heap.specs.Takes as takes;
+ghost use Rattle.typed_heap.specs.Takes.{KnowsElements, KnowsTypes};
+
+use crate::numbers::is_whole_number;
+use c_types::{TypeNo, TypeTable};
+use heap_model::{
+    AccessKind, Call, Entry, History, Reach, Reply, ReportKind, Value, fits, region_for, suits,
+};
+use std::alloc::{AllocError, Global};
+use std::test::Fail;
+use typed_heap::RegionHeap;
+
+const CHAR: TypeNo = 2;
+
+const INT: TypeNo = 6;
+
+const LONG: TypeNo = 8;
+
+/// The first byte of the first object of region 1, behind its header.
+const FIRST: u64 = 0x1_0000_0010;
+
+/// The words of the first, the second and the third object in that slot.
+const A: u64 = 0x101_0000_0010;
+
+const B: u64 = 0x201_0000_0010;
+
+const C: u64 = 0x301_0000_0010;
+
+/// A word into region 3.
+const FAR: u64 = 0x103_0000_0000;
+
+/// The first eight bytes of that object, and parts of them.
+const WHOLE: Reach = Reach {
+    lo: FIRST,
+    hi: FIRST + 8,
+};
+
+const SECOND_HALF: Reach = Reach {
+    lo: FIRST + 4,
+    hi: FIRST + 8,
+};
+
+const BEYOND: Reach = Reach {
+    lo: FIRST,
+    hi: FIRST + 16,
+};
+
+const NULL: Reply = Reply::Report(ReportKind::Null);
+
+const DEAD: Reply = Reply::Report(ReportKind::Free);
+
+const BOUNDS: Reply = Reply::Report(ReportKind::Bounds);
+
+const ALIGN: Reply = Reply::Report(ReportKind::Align);
+
+const BAD_FREE: Reply = Reply::Report(ReportKind::BadFree);
+
+const DOUBLE_FREE: Reply = Reply::Report(ReportKind::DoubleFree);
+
+macro_rules! alloc {
+    ($elem:expr, $size:expr, $fixed:expr) => {
+        Call::Alloc {
+            elem: $elem,
+            size: $size,
+            fixed: $fixed,
+        }
+    };
+}
+
+macro_rules! free {
+    ($p:expr) => {
+        Call::Free {
+            p: $p,
+            fixed: false,
+        }
+    };
+}
+
+macro_rules! check {
+    ($p:expr, $want:expr) => {
+        Call::Check {
+            p: $p,
+            want: $want,
+        }
+    };
+}
+
+macro_rules! load {
+    ($p:expr, $reach:expr, $kind:ident) => {
+        Call::Load {
+            p: $p,
+            reach: $reach,
+            kind: AccessKind::$kind,
+        }
+    };
+}
+
+macro_rules! store {
+    ($p:expr, $reach:expr, $kind:ident, $bits:expr, $pointer:expr) => {
+        Call::Store {
+            p: $p,
+            reach: $reach,
+            kind: AccessKind::$kind,
+            value: Value {
+                bits: $bits,
+                pointer: $pointer,
+            },
+        }
+    };
+}
+
+macro_rules! value {
+    ($bits:expr, $pointer:expr) => {
+        Reply::Value(Value {
+            bits: $bits,
+            pointer: $pointer,
+        })
+    };
+}
+
+/// The heap of a region over the nine types.
+#[derive(Drop)]
+struct Region {
+    types: TypeTable,
+    heap: RegionHeap,
+    ghost basic: { types ≡ basic_types },
+    ghost known: { KnowsElements basic_types heap },
+}
+
+/// Whether the type that a call names is one of three whole numbers.
+fn names_whole_number(call: &Call) -> bool
+    ensures { IsTrue result → KnowsTypes basic_types call.now }
+{
+    match *call {
+        Call::Alloc { elem, .. } => is_whole_number(elem),
+        Call::Check { want, .. } => is_whole_number(want),
+        Call::Free { .. } | Call::Load { .. } | Call::Store { .. } | Call::Add { .. } => true,
+    }
+}
+
+/// Whether a call is no addition and no access to a pointer.
+fn moves_numbers(call: &Call) -> bool
+    ensures { result ≡ takes.moves_numbers call.now }
+{
+    match *call {
+        Call::Add { .. } => false,
+        Call::Load { kind, .. } | Call::Store { kind, .. } => {
+            !matches!(kind, AccessKind::Ptr | AccessKind::Word)
+        }
+        Call::Alloc { .. } | Call::Free { .. } | Call::Check { .. } => true,
+    }
+}
+
+impl Region {
+    fn new(alloc: Global, region: u32) -> Result<Region, AllocError>
+        requires { (1 ≤ region) × (region ≤ 27) }
+    {
+        let types = TypeTable::new(alloc)?;
+        let heap = RegionHeap::new(alloc, region)?;
+        Ok(Region { types, heap })
+    }
+
+    /// The reply to a call of this region.
+    fn ask(&mut self, call: &Call) -> Result<Option<Reply>, AllocError> {
+        let Some(region) = region_for(call) else {
+            return Ok(None);
+        };
+        if region != self.heap.region() {
+            return Ok(None);
+        }
+        if !fits(call) {
+            return Ok(None);
+        }
+        if !moves_numbers(call) {
+            return Ok(None);
+        }
+        if !names_whole_number(call) {
+            return Ok(None);
+        }
+        Ok(Some(self.heap.step(&self.types, call)?))
+    }
+
+    /// The place of the first call whose reply is another, if there is one.
+    fn first_other(&mut self, steps: &[(Call, Reply)]) -> Result<Option<usize>, AllocError> {
+        for (i, (call, reply)) in steps.iter().enumerate() {
+            if self.ask(call)? != Some(*reply) {
+                return Ok(Some(i));
+            }
+        }
+        Ok(None)
+    }
+}
+
+/// An object that is used after its end is reported, though its slot was given out again.
+static USE_AFTER_FREE: [(Call, Reply); 13] = [
+    (alloc!(INT, 8, false), Reply::Placed(A)),
+    (free!(A), Reply::Done),
+    (alloc!(INT, 8, false), Reply::Placed(B)),
+    (check!(B, INT), Reply::Found(WHOLE)),
+    (store!(B, WHOLE, I32, 5, false), Reply::Done),
+    (check!(A, INT), DEAD),
+    (load!(A, WHOLE, I32), DEAD),
+    (store!(A, WHOLE, I32, 7, false), DEAD),
+    (load!(B, WHOLE, I32), value!(5, false)),
+    (free!(A), DOUBLE_FREE),
+    (free!(B), Reply::Done),
+    (free!(B), DOUBLE_FREE),
+    (alloc!(INT, 8, false), Reply::Placed(C)),
+];
+
+/// At the end of the reach and of the object, one before and one past it; alignment; two causes together; frees.
+static TESTS_IN_ORDER: [(Call, Reply); 27] = [
+    (alloc!(INT, 8, false), Reply::Placed(A)),
+    (load!(A + 4, WHOLE, I32), value!(0, false)),
+    (load!(A + 5, WHOLE, I32), BOUNDS),
+    (load!(A + 8, WHOLE, I8), BOUNDS),
+    (load!(A + 7, WHOLE, I8), value!(0, false)),
+    (load!(A + 3, SECOND_HALF, I8), BOUNDS),
+    (load!(A + 4, SECOND_HALF, I8), value!(0, false)),
+    (load!(A + 7, BEYOND, I8), value!(0, false)),
+    (load!(A + 8, BEYOND, I8), BOUNDS),
+    (load!(A - 1, BEYOND, I8), BOUNDS),
+    (load!(A + 2, WHOLE, I32), ALIGN),
+    (load!(A + 2, WHOLE, I16), value!(0, false)),
+    (load!(A + 1, WHOLE, U16), ALIGN),
+    (load!(A + 4, WHOLE, U64), BOUNDS),
+    (load!(FIRST + 9, WHOLE, I32), NULL),
+    (load!(B + 9, WHOLE, I32), DEAD),
+    (load!(A + 9, WHOLE, I32), BOUNDS),
+    (store!(A + 2, WHOLE, I32, 1, false), ALIGN),
+    (free!(0), Reply::Done),
+    (free!(FIRST), BAD_FREE),
+    (free!(A + 4), BAD_FREE),
+    (Call::Free { p: A, fixed: true }, BAD_FREE),
+    (free!(B), DOUBLE_FREE),
+    (free!(A), Reply::Done),
+    (free!(A + 4), BAD_FREE),
+    (free!(A), DOUBLE_FREE),
+    (load!(A + 9, WHOLE, I32), DEAD),
+];
+
+/// Numbers are kept lowest byte first, and a store changes its own bytes alone.
+static NUMBERS: [(Call, Reply); 16] = [
+    (alloc!(CHAR, 8, true), Reply::Placed(A)),
+    (
+        store!(A, WHOLE, U64, 0x8182_8384_8586_8788, false),
+        Reply::Done,
+    ),
+    (load!(A, WHOLE, U8), value!(0x88, false)),
+    (load!(A, WHOLE, I8), value!(0xffff_ffff_ffff_ff88, false)),
+    (load!(A + 2, WHOLE, U16), value!(0x8586, false)),
+    (
+        load!(A + 2, WHOLE, I16),
+        value!(0xffff_ffff_ffff_8586, false),
+    ),
+    (load!(A + 4, WHOLE, U32), value!(0x8182_8384, false)),
+    (
+        load!(A + 4, WHOLE, I32),
+        value!(0xffff_ffff_8182_8384, false),
+    ),
+    (load!(A, WHOLE, I64), value!(0x8182_8384_8586_8788, false)),
+    (
+        store!(A + 2, WHOLE, I16, 0xffff_ffff_ffff_0102, false),
+        Reply::Done,
+    ),
+    (load!(A, WHOLE, U64), value!(0x8182_8384_0102_8788, false)),
+    (check!(A + 3, LONG), Reply::Found(WHOLE)),
+    (check!(FIRST, LONG), NULL),
+    (Call::Free { p: A, fixed: true }, Reply::Done),
+    (alloc!(INT, 8, false), Reply::Placed(B)),
+    (check!(B + 2, INT), Reply::Report(ReportKind::WrongType)),
+];
+
+#[test]
+fn calls_are_answered_in_order(rt: HostRuntime) -> Result<(), Fail> {
+    let mut used = Region::new(rt.alloc(), 1)?;
+    assert_eq!(rt; used.first_other(&USE_AFTER_FREE)?, None);
+    assert_eq!(rt; used.heap.live(), 1);
+    assert_eq!(rt; used.heap.made(), 3);
+    let mut tested = Region::new(rt.alloc(), 1)?;
+    assert_eq!(rt; tested.first_other(&TESTS_IN_ORDER)?, None);
+    let mut kept = Region::new(rt.alloc(), 1)?;
+    assert_eq!(rt; kept.first_other(&NUMBERS)?, None);
+    let mut second = Region::new(rt.alloc(), 2)?;
+    assert_eq!(rt;
+        second.ask(&alloc!(LONG, 24, false))?,
+        Some(Reply::Placed(1_108_101_562_400))
+    );
+    assert_eq!(rt; second.heap.region(), 2);
+    Ok(())
+}
+
+/// The words of the third and the fifth slot of region 1, with their first and second version.
+static GIVEN_BACK: [(Call, Reply); 6] = [
+    (alloc!(INT, 0, false), Reply::NoSlot),
+    (free!(A + 128), Reply::Done),
+    (free!(A + 64), Reply::Done),
+    (alloc!(INT, 4, false), Reply::Placed(B + 64)),
+    (alloc!(INT, 4, false), Reply::Placed(B + 128)),
+    (alloc!(INT, 4, false), Reply::NoSlot),
+];
+
+/// How many objects of 15 bytes find a slot in turn, each in the next.
+fn placed(region: &mut Region) -> Result<u64, AllocError> {
+    for slot in 0..70_000u64 {
+        if region.ask(&alloc!(INT, 15, false))? != Some(Reply::Placed(A + 32 * slot)) {
+            return Ok(slot);
+        }
+    }
+    Ok(70_000)
+}
+
+#[test]
+fn a_region_is_full_with_all_its_slots(rt: HostRuntime) -> Result<(), Fail> {
+    let mut region = Region::new(rt.alloc(), 1)?;
+    assert_eq!(rt; placed(&mut region)?, 65_536);
+    assert_eq!(rt; region.heap.live(), 65_536);
+    // the slot that was given back last is the next
+    assert_eq!(rt; region.first_other(&GIVEN_BACK)?, None);
+    assert_eq!(rt; region.heap.made(), 65_538);
+    Ok(())
+}
+
+/// Calls with their regions, and whether the heap takes them.
+static REGIONS: [(Call, Option<u32>, bool); 13] = [
+    (alloc!(INT, 15, false), Some(1), true),
+    (alloc!(INT, 16, false), Some(2), true),
+    (alloc!(INT, 1_048_559, false), Some(27), true),
+    (alloc!(INT, 1_048_560, false), None, true),
+    (free!(0), Some(1), true),
+    (free!(FAR), Some(3), true),
+    (check!(FAR, INT), Some(3), true),
+    (load!(FAR, WHOLE, Ptr), Some(1), true),
+    (store!(FAR, WHOLE, Ptr, 0, false), Some(1), true),
+    (store!(FAR, WHOLE, Ptr, 1, false), Some(1), false),
+    (store!(FAR, WHOLE, Ptr, FAR, true), Some(1), true),
+    (store!(FAR, WHOLE, Word, FAR, true), Some(1), true),
+    (store!(FAR, WHOLE, I64, FAR, true), Some(1), false),
+];
+
+/// Replies, and whether they suit the call.
+static FORMS: [(Call, Reply, bool); 12] = [
+    (alloc!(INT, 8, false), Reply::Placed(FAR), true),
+    (alloc!(INT, 8, false), Reply::Placed(FIRST), false),
+    (alloc!(INT, 8, false), Reply::Done, false),
+    (free!(FAR), DOUBLE_FREE, true),
+    (free!(FAR), NULL, false),
+    (load!(FAR, WHOLE, U8), value!(255, false), true),
+    (load!(FAR, WHOLE, U8), value!(256, false), false),
+    (load!(FAR, WHOLE, I8), value!(255, false), false),
+    (
+        load!(FAR, WHOLE, I8),
+        value!(0xffff_ffff_ffff_ffff, false),
+        true,
+    ),
+    (load!(FAR, WHOLE, Ptr), value!(1, false), false),
+    (load!(FAR, WHOLE, I64), value!(FAR, true), false),
+    (load!(FAR, WHOLE, Ptr), value!(FAR, true), true),
+];
+
+#[test]
+fn calls_have_regions_and_forms(rt: HostRuntime) -> Result<(), Fail> {
+    for (call, region, taken) in &REGIONS {
+        assert_eq!(rt; region_for(call), *region);
+        assert_eq!(rt; fits(call), *taken);
+    }
+    for (call, reply, suited) in &FORMS {
+        assert_eq!(rt; suits(call, reply), *suited);
+    }
+    Ok(())
+}
+
+#[test]
+fn a_history_takes_what_there_is_room_for(rt: HostRuntime) -> Result<(), Fail> {
+    let mut history = History::new(rt.alloc());
+    assert_eq!(rt; history.len(), 0);
+    history.room()?;
+    let entry = Entry {
+        worker: 1,
+        number: 0,
+        stamp: 1,
+        region: 1,
+        call: free!(0),
+        reply: Reply::Done,
+    };
+    history.push(entry);
+    assert_eq!(rt; history.len(), 1);
+    assert_eq!(rt; history.get(0), entry);
+    Ok(())
+}
