@@ -24,12 +24,16 @@ fn nested(
 #[test]
 fn nodes_nest_two_hundred_deep(rt: HostRuntime) -> Result<(), Fail> {
     // the body is one deep; each block or loop is one more; a loop's test is one deeper than it
-    let cases: [(&[u8], u32, &[u8], &[u8]); 5] = [
+    let cases: [(&[u8], u32, &[u8], &[u8]); 8] = [
         (b"{", 199, b"", b"}"),
         (b"while (0)", 198, b"{ }", b""),
         (b"while (0) {", 99, b"{ }", b"}"),
         (b"if (0)", 198, b"{ }", b""),
         (b"if (0) { } else ", 198, b"{ }", b""),
+        // what a pointer takes is one deeper than its declaration, and so is what is freed; an index is one deeper than its element
+        (b"{", 197, b"int *p = malloc(0);", b"}"),
+        (b"{", 197, b"int *p = (int *)p; free(p);", b"}"),
+        (b"{", 196, b"int *p = malloc(4); int x = p[0];", b"}"),
     ];
     for (open, times, middle, close) in cases {
         let source = nested(rt.alloc(), open, times, middle, close)?;

@@ -1,11 +1,13 @@
 //! From a source text to its program.
 
 ghost use Rattle.std.specs.Prelude.{◌≡◌, ◌≤◌, length, IfOk, IfErr};
+ghost use Rattle.std.specs.List.{list_any};
 ghost use Rattle.effsan_top.specs.Errors.{of_lexer};
+ghost use Rattle.effsan_top.specs.Programs as spec;
 ghost use Rattle.effsan_top.specs.Answers.{IsOnlyProgram, HasProgramCause};
 
 use crate::lexical::{LexicalFault, line_at};
-use c_lexer::{LexError, lex};
+use c_lexer::{Kind, LexError, Token, lex};
 use c_parser::{ParseError, parse};
 use plain_meaning::{Program, typed};
 use std::alloc::{AllocError, Global};
@@ -67,6 +69,43 @@ impl From<AllocError> for ProgramError {
     }
 }
 
+/// Whether a token, where it is a name, is spelled in one piece, so that its bytes are those of the text. (A line that is
+/// joined inside a name is no part of it, C11 5.1.1.2.)
+fn is_in_one_piece(text: &[u8], token: &Token) -> bool
+    ensures { result ≡ spec.is_in_one_piece text.now token.now }
+{
+    match token.kind {
+        Kind::Name => {
+            let end = text.len().min(token.end as usize);
+            let start = end.min(token.start as usize);
+            !has_backslash(&text[start..end])
+        }
+        Kind::Word(_) | Kind::Number(..) | Kind::Char(_) | Kind::Str | Kind::Mark(_) => true,
+    }
+}
+
+fn has_backslash(name: &[u8]) -> bool
+    ensures { result ≡ list_any spec.is_backslash name.now }
+{
+    for byte in name {
+        if *byte == b'\\' {
+            return true;
+        }
+    }
+    false
+}
+
+fn names_in_one_piece(text: &[u8], tokens: &[Token]) -> bool
+    ensures { result ≡ spec.names_in_one_piece text.now tokens.now }
+{
+    for token in tokens {
+        if !is_in_one_piece(text, token) {
+            return false;
+        }
+    }
+    true
+}
+
 /// The program of a text: its tokens, the unit that they derive, and the typed tree of that.
 pub fn program_of(alloc: Global, text: &[u8]) -> Result<Program, ProgramError>
     requires { length text.now ≤ 1048576 }
@@ -78,6 +117,9 @@ pub fn program_of(alloc: Global, text: &[u8]) -> Result<Program, ProgramError>
         Ok(tokens) => tokens,
         Err(error) => return Err(unreadable(text, error)),
     };
+    if !names_in_one_piece(text, tokens.as_slice()) {
+        return Err(ProgramError::NotYet);
+    }
     let unit = parse(alloc, text, tokens.as_slice())?;
     Ok(typed(alloc, &unit)?)
 }
