@@ -16,7 +16,7 @@ use Rattle.plain_meaning.specs.declared.record.Report.{Report}
 use Rattle.plain_meaning.specs.declared.record.Setting.{Setting}
 use Rattle.plain_meaning.specs.declared.tree.Program.{Program}
 use Rattle.reports.specs.Lines.{KnowsType}
-use Rattle.effsan_top.specs.Histories.{AccessesInside, FindsPreferred}
+use Rattle.effsan_top.specs.Histories.{AccessesInside, FindsPreferred, IsHistory}
 use Rattle.effsan_top.specs.Statuses.{all_finished, run_status, some_reported, some_spent, status_by}
 
 -- ---- statuses
@@ -102,3 +102,11 @@ finds law history legal before later e word want reach is =
 pub inside : AccessesLaw → (history : List Entry) → IsLegal preferred history → AccessesInside history
 inside law history legal before later e at is =
     law preferred before later e at (subst (λ h. IsLegal preferred h) is legal)
+
+pub no_history : IsHistory []
+no_history = record {
+  legal = tt;
+  numbered = λ w. tt;
+  stamped = record { workers = λ w. tt; regions = λ r. tt; order = tt };
+  stamps = tt;
+}

@@ -2,8 +2,7 @@
 
 ghost use Rattle.std.specs.Prelude.{◌≡◌, ◌≤◌, length, map, IfOk, IfErr, string_bytes};
 ghost use Rattle.std.specs.List.{list_any};
-ghost use Rattle.heap_model.specs.Legal.{IsLegal};
-ghost use Rattle.plain_meaning.specs.Run.{preferred};
+ghost use Rattle.effsan_top.specs.Histories.{IsHistory};
 ghost use Rattle.effsan_top.specs.Streams.{Rose};
 ghost use Rattle.effsan_top.specs.Lines as spec;
 ghost use Rattle.effsan_top.specs.Statuses.{is_reported, is_spent, run_status};
@@ -34,7 +33,7 @@ pub struct Answer {
 fn answer_text<'a>(alloc: Global, name: &'a [u8], text: &[u8]) -> Result<Answer, Refusal<'a>>
     requires { length text.now ≤ 1048576 }
     ensures run { IfOk result (λ answer. RunsText name.now text.now answer.run) }
-    ensures legal { IfOk result (λ answer. IsLegal preferred answer.run.history.entries) }
+    ensures history { IfOk result (λ answer. IsHistory answer.run.history.entries) }
     ensures text { IfOk result (λ answer. answer.text ≡ spec.printed answer.run) }
     ensures refused { IfErr result (λ refusal. HasTextCause name.now text.now (seen refusal)) }
 {
@@ -59,7 +58,7 @@ pub fn answer_words<'a, S: Source>(
     src: &mut S,
 ) -> Result<Answer, Refusal<'a>>
     ensures run { IfOk result (λ answer. RunsFor (map string_bytes words.now) (S.left src.old) answer.run) }
-    ensures legal { IfOk result (λ answer. IsLegal preferred answer.run.history.entries) }
+    ensures history { IfOk result (λ answer. IsHistory answer.run.history.entries) }
     ensures text { IfOk result (λ answer. answer.text ≡ spec.printed answer.run) }
     ensures refused { IfErr result (λ refusal. HasNoRunFor (map string_bytes words.now) (S.left src.old) (Rose (S.faults src.old) (S.faults src.new)) (seen refusal)) }
 {

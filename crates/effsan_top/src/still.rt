@@ -6,7 +6,7 @@ ghost use Rattle.effsan_top.specs.Words.{entry_of};
 ghost use Rattle.effsan_top.specs.Lines as spec;
 ghost use Rattle.effsan_top.specs.Lines.{Refusal as Cause, status_of, line_of};
 ghost use Rattle.effsan_top.specs.Statuses.{Exactly, all_finished, some_reported, some_spent, is_answer, is_run, is_status, run_status};
-ghost use Rattle.effsan_top.specs.Histories.{FindsPreferred, AccessesInside};
+ghost use Rattle.effsan_top.specs.Histories.{FindsPreferred, AccessesInside, IsHistory};
 ghost use Rattle.effsan_top.specs.Causes.{OfText, IsTooLarge, IsRefused, HasRun, HasCause, IsEmpty, AnswersAccepted, AnswersAlone};
 ghost use Rattle.effsan_top.specs.Refusals.{seen};
 
@@ -100,7 +100,8 @@ pub fn effsan_still<S: Source, O: Sink, E: Sink>(
     ensures finished { is_answer result.status ≡ true → (result.status ≡ 0) ↔ IsTrue (all_finished result.run.endings) }
     ensures reported { is_answer result.status ≡ true → (result.status ≡ 1) ↔ IsTrue (some_reported result.run.endings) }
     ensures spent { is_answer result.status ≡ true → (result.status ≡ 8) ↔ IsTrue (not (some_reported result.run.endings) && some_spent result.run.endings) }
-    // Whatever the source tells: what the record says of bounds and accesses.
+    // Whatever the source tells: the history is one that the heap may give, and what it says of bounds and accesses.
+    ensures history { IsHistory result.run.history.entries }
     ensures found_preferred { FindsPreferred result.run.history.entries }
     ensures accesses_inside { AccessesInside result.run.history.entries }
     ensures no_run { is_run result.status ≡ false → IsEmpty result.run }

@@ -4,6 +4,7 @@ ghost use Rattle.std.specs.Prelude.{◌≡◌, ◌<◌, length, Some, IfOk};
 ghost use Rattle.std.specs.List.{AllByRecursion};
 ghost use Rattle.plain_meaning.specs.Meaning.{body_of};
 ghost use Rattle.plain_meaning.specs.Run.{Run, Worked, checked_acts};
+ghost use Rattle.region_heaps.specs.Entries.{StampsFrom};
 ghost use Rattle.tree_walk.specs.Steps.{EndsAs};
 
 use crate::stop::Stop;
@@ -25,7 +26,8 @@ struct Outcome {
 /// The record of a run of a program, from its start to its end. Each of the workers may take as many turns as the setting says.
 pub fn run(alloc: Global, program: &Program, setting: &Setting) -> Result<Record, AllocError>
     requires { setting.now.entry < length program.now.functions }
-    ensures { IfOk result (λ run. Run program.now setting.now run) }
+    ensures run { IfOk result (λ run. Run program.now setting.now run) }
+    ensures stamps { IfOk result (λ run. StampsFrom 1 run.history.entries) }
 {
     let function = &program.functions.as_slice()[setting.entry as usize];
     let outcome = worker(alloc, function, setting.turns)?;

@@ -13,4 +13,4 @@ pub run-requires : goal.run-requires
 run-requires c = slice_get_within _ _ c.in-Ok.ensures.named.function c.in-Ok.ensures.named.found
 
 pub printed-requires : goal.printed-requires
-printed-requires c = knows_types c.law_wants.ensures _ _ _ c.in_ok-run.ensures
+printed-requires c = knows_types c.law_wants.ensures _ _ _ c.in_ok-run.ensures.run

@@ -3,7 +3,7 @@ use Rattle.std.specs.Prelude.{map, string_bytes}
 use Rattle.effsan_top.specs.Streams.{Rose}
 use Rattle.effsan_top.specs.Lines.{WriteFault}
 use Rattle.effsan_top.specs.Refusals.{seen}
-use Rattle.effsan_top.proofs.Endings.{finds, inside, tells}
+use Rattle.effsan_top.proofs.Endings.{finds, inside, tells, no_history}
 use Rattle.effsan_top.proofs.Outcomes.{of_run, of_refusal, is_a_run, has_cause}
 use Rattle.effsan_top.proofs.still.effsan_still.Goals as goal
 
@@ -47,13 +47,16 @@ returns-in-Ok-clause-spent g c answered =
     let told = (is_a_run _ _ c.in-Ok.answer.run c.written.result.status c.in-Ok.ensures.run c.written.ensures.status).answers answered in
     (tells _ _ _ c.written.ensures.run told).eight
 
+pub returns-in-Ok-clause-history : goal.returns-in-Ok-clause-history
+returns-in-Ok-clause-history g c = rw c.written.ensures.run c.in-Ok.ensures.history
+
 pub returns-in-Ok-clause-found_preferred : goal.returns-in-Ok-clause-found_preferred
 returns-in-Ok-clause-found_preferred g c =
-    rw c.written.ensures.run (finds c.law_found_preferred.ensures c.in-Ok.answer.run.history.entries c.in-Ok.ensures.legal)
+    rw c.written.ensures.run (finds c.law_found_preferred.ensures c.in-Ok.answer.run.history.entries c.in-Ok.ensures.history.legal)
 
 pub returns-in-Ok-clause-accesses_inside : goal.returns-in-Ok-clause-accesses_inside
 returns-in-Ok-clause-accesses_inside g c =
-    rw c.written.ensures.run (inside c.law_accesses_inside.ensures c.in-Ok.answer.run.history.entries c.in-Ok.ensures.legal)
+    rw c.written.ensures.run (inside c.law_accesses_inside.ensures c.in-Ok.answer.run.history.entries c.in-Ok.ensures.history.legal)
 
 pub returns-in-Ok-clause-no_run : goal.returns-in-Ok-clause-no_run
 returns-in-Ok-clause-no_run g c none =
@@ -79,6 +82,9 @@ returns-in-Err-clause-accepted g c name text asked told =
 pub returns-in-Err-clause-alone : goal.returns-in-Err-clause-alone
 returns-in-Err-clause-alone g c name text asked told =
     rw c.refused.ensures.status (of_refusal (map string_bytes c.args.words.now) (g.S.Source.left c.args.src.now) (Rose (g.S.Source.faults c.args.src.now) (g.S.Source.faults c.answer_words.new.src)) (seen c.in-Err.refusal) c.in-Err.ensures.refused name text asked told).alone
+
+pub returns-in-Err-clause-history : goal.returns-in-Err-clause-history
+returns-in-Err-clause-history g c = rw c.refused.ensures.run.history no_history
 
 pub returns-in-Err-clause-found_preferred : goal.returns-in-Err-clause-found_preferred
 returns-in-Err-clause-found_preferred g c = rw c.refused.ensures.run.history (finds c.law_found_preferred.ensures [] tt)

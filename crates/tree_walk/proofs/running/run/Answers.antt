@@ -4,8 +4,8 @@ use Rattle.std.specs.Prelude.{slice_get}
 use Rattle.tree_walk.proofs.Workers.{run_is}
 use Rattle.tree_walk.proofs.running.run.Goals as goal
 
-pub returns : goal.returns
-returns c =
+pub returns-clause-run : goal.returns-clause-run
+returns-clause-run c =
     let program = c.args.program.now in
     let setting = c.args.setting.now in
     let functions = c.as_slice.result.now in
@@ -17,3 +17,6 @@ returns c =
     (ap (λ all. slice_get all setting.entry) (sym c.as_slice.ensures)
     ∙ slice_get_read functions (length functions) setting.entry f refl (omega (arith, ap length c.as_slice.ensures)) c.index-as_slice-setting.is)
     ensured.worked ensured.alone law.legal law.numbered law.stamped (search rules) (search rules)
+
+pub returns-clause-stamps : goal.returns-clause-stamps
+returns-clause-stamps c = rw c.into_history.ensures c.law_history.ensures.stamps
