@@ -1,0 +1,3 @@
+mod CaseTokens
+mod Cases
+mod DeclarationCases
