@@ -51,7 +51,7 @@ fn bodies_in_the_language_run(rt: HostRuntime) -> Result<(), Fail> {
 
 #[test]
 fn bodies_outside_the_language_are_refused(rt: HostRuntime) -> Result<(), Fail> {
-    let bodies: [&str; 69] = [
+    let bodies: [&str; 68] = [
         // a line that is joined inside a name
         "int ab = 1; { int a\\\nb = 2; printf(\"%d\\n\", ab); }",
         "int xy = 1; x\\\ny = 2;",
