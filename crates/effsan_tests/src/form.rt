@@ -125,7 +125,7 @@ fn bodies_outside_the_language_are_refused(rt: HostRuntime) -> Result<(), Fail> 
         "printf(\"%d\", 1);",
         "puts(\"%d\\n\", 1);",
         "printf(\"%d\\n\" \"\", 1);",
-        "printf(\"\\x25d\\n\", 1);",
+        "printf(\"\\45d\\n\", 1);",
     ];
     for body in bodies {
         let left = play_body(rt.alloc(), body)?;

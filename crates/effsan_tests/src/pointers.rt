@@ -236,7 +236,10 @@ fn entry(number: u32, call: Call, reply: Reply) -> Entry {
 /// What is kept of the store of 258 behind a conversion, on an object that was placed by this word.
 fn checked_store(word: u64) -> [Entry; 4] {
     let lo = address_of(word);
-    let reach = Reach { lo, hi: lo + 8 };
+    let reach = Reach {
+        lo,
+        hi: lo.wrapping_add(8),
+    };
     let p = word.wrapping_add(4);
     let plain = |bits| Value {
         bits,

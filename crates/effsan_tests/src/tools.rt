@@ -1,6 +1,6 @@
 //! What the tests share: a call of the program with everything in memory.
 
-use c_lexer::lex;
+use c_lexer::{MAX_TEXT, lex};
 use c_parser::{ParseError, Unit, parse};
 use effsan_top::{MemSink, MemSource, Record, effsan_still};
 use std::alloc::{AllocError, Global};
@@ -58,8 +58,12 @@ pub fn body_of(alloc: Global, short: &str) -> Result<String, AllocError> {
 /// The unit of a function `f` with this body, where it has one.
 pub fn unit_of(alloc: Global, body: &str) -> Result<Option<Unit>, Fail> {
     let text = format!(in alloc; "void f(void) {{ {body} }}")?;
-    let tokens = lex(alloc, text.as_bytes()).map_err(|_| "lex")?;
-    match parse(alloc, text.as_bytes(), tokens.as_slice()) {
+    let text = text.as_bytes();
+    if text.len() > MAX_TEXT {
+        return Err(Fail::from("too large"));
+    }
+    let tokens = lex(alloc, text).map_err(|_| "lex")?;
+    match parse(alloc, text, tokens.as_slice()) {
         Ok(unit) => Ok(Some(unit)),
         Err(ParseError::NotYet) => Ok(None),
         Err(ParseError::Memory(_)) => Err(Fail::from("memory")),
