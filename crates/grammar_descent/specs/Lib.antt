@@ -1,0 +1,13 @@
+pub mod Reading
+pub mod Follow
+pub mod Types
+pub mod Exact
+pub mod InitialiserSteps
+pub mod StatementSteps
+pub mod UnitSteps
+pub mod ExpressionSteps
+pub mod TypeWords
+pub mod DeclaratorSteps
+pub mod SpecifierSteps
+pub mod NextReaders
+pub mod AllReaders
