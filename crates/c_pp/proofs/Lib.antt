@@ -1,0 +1,13 @@
+pub mod Parts
+pub mod Replacing
+pub mod Lines
+pub mod Readings
+pub mod MarkLemmas
+pub mod OutputLemmas
+pub mod WalkLemmas
+pub mod Walking
+pub mod NumberLemmas
+pub mod Obeying
+pub mod Drawn
+pub mod Expanding
+pub mod Totality
