@@ -10,6 +10,8 @@ mod form;
 #[cfg(test)]
 mod limits;
 #[cfg(test)]
+mod macros;
+#[cfg(test)]
 mod pointers;
 #[cfg(test)]
 mod runs;

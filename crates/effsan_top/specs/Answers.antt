@@ -7,10 +7,10 @@ use Rattle.plain_meaning.specs.Run.{Run}
 use Rattle.effsan_top.specs.Streams.{max_text}
 use Rattle.effsan_top.specs.Words.{Words, entry_of}
 use Rattle.effsan_top.specs.Programs.{IsProgram, HasNoProgram}
-use Rattle.effsan_top.specs.declared.lexical.LexicalFault.{LexicalFault}
+use Rattle.effsan_top.specs.declared.faults.TextFault.{TextFault}
 use Rattle.effsan_top.specs.declared.program.ProgramError.{ProgramError}
 use Rattle.effsan_top.specs.declared.program.ProgramError.TheVariants as error
-use Rattle.effsan_top.specs.Lexical.{IsUnreadable, HasTokens}
+use Rattle.effsan_top.specs.Faults.{IsUnreadable, IsReadable}
 use Rattle.effsan_top.specs.Lines as line
 use Rattle.effsan_top.specs.Causes.{IsTooLarge, setting_of}
 
@@ -18,22 +18,22 @@ use Rattle.effsan_top.specs.Causes.{IsTooLarge, setting_of}
 pub record IsOnlyProgram (text : List ℕ) (program : Program) : Type 0 where
   pub is : IsProgram text program
   pub only : (other : Program) → IsProgram text other → other ≡ program
-  pub readable : (f : LexicalFault) (line : ℕ) → IsUnreadable text f line → ⊥
+  pub readable : (f : TextFault) (line : ℕ) → IsUnreadable text f line → ⊥
 
--- The text has no tokens, so that it has no program.
-pub record IsUnlexed (text : List ℕ) (f : LexicalFault) (line : ℕ) : Type 0 where
+-- The text cannot be read, so that it has no program.
+pub record IsFaulty (text : List ℕ) (f : TextFault) (line : ℕ) : Type 0 where
   pub unreadable : IsUnreadable text f line
   pub unread : HasNoProgram text
 
--- The text has tokens, but no program.
+-- The text can be read, but has no program.
 pub record IsForeign (text : List ℕ) : Type 0 where
-  pub tokens : HasTokens text
+  pub readable : IsReadable text
   pub unread : HasNoProgram text
 
 -- Why a text has no program.
 abbrev pub HasProgramCause : List ℕ → ProgramError → Type 0
 HasProgramCause text error.Memory = Unit {0}
-HasProgramCause text (error.Lexical f line) = IsUnlexed text f line
+HasProgramCause text (error.Unreadable f line) = IsFaulty text f line
 HasProgramCause text error.NotYet = IsForeign text
 
 -- The record is that of the one program of the text, run from the function of this name.
@@ -52,7 +52,7 @@ pub record LacksName (name text : List ℕ) : Type 0 where
 
 -- Why a text that was read whole gives no run.
 abbrev pub HasTextCause : List ℕ → List ℕ → line.Refusal → Type 0
-HasTextCause name text (line.Lexical f l) = IsUnlexed text f l
+HasTextCause name text (line.Unreadable f l) = IsFaulty text f l
 HasTextCause name text line.NotYet = IsForeign text
 HasTextCause name text (line.NotFound missing) = (missing ≡ name) × LacksName name text
 HasTextCause name text line.OutOfMemory = Unit {0}
@@ -66,7 +66,7 @@ OfRead left P = IfSome left (λ text. (length text ≤ max_text) × P text)
 abbrev pub HasReadCause : List ℕ → Option (List ℕ) → Type 0 → line.Refusal → Type 0
 HasReadCause name left read line.ReadFault = read
 HasReadCause name left read line.TooLarge = IfSome left IsTooLarge
-HasReadCause name left read (line.Lexical f l) = OfRead left (λ text. IsUnlexed text f l)
+HasReadCause name left read (line.Unreadable f l) = OfRead left (λ text. IsFaulty text f l)
 HasReadCause name left read line.NotYet = OfRead left IsForeign
 HasReadCause name left read (line.NotFound missing) = (missing ≡ name) × OfRead left (LacksName name)
 HasReadCause name left read line.OutOfMemory = Unit {0}

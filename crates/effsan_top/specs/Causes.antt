@@ -11,9 +11,9 @@ use Rattle.effsan_top.specs.Streams.{max_text}
 use Rattle.effsan_top.specs.Words.{Words, entry_of}
 use Rattle.effsan_top.specs.Programs.{IsProgram, HasNoProgram}
 use Rattle.effsan_top.specs.Statuses.{IsAnswered, IsOrFault, run_status}
-use Rattle.effsan_top.specs.Lines.{Refusal, Words as Unbuilt, ReadFault, TooLarge, Lexical, NotYet, NotFound, OutOfMemory, WriteFault}
-use Rattle.effsan_top.specs.declared.lexical.LexicalFault.{LexicalFault}
-use Rattle.effsan_top.specs.Lexical.{IsUnreadable, HasTokens}
+use Rattle.effsan_top.specs.Lines.{Refusal, Words as Unbuilt, ReadFault, TooLarge, Unreadable, NotYet, NotFound, OutOfMemory, WriteFault}
+use Rattle.effsan_top.specs.declared.faults.TextFault.{TextFault}
+use Rattle.effsan_top.specs.Faults.{IsUnreadable, IsReadable}
 
 -- how many turns a worker may take
 abbrev pub max_turns : ℕ
@@ -33,18 +33,18 @@ pub record Accepts (name text : List ℕ) (program : Program) (entry : ℕ) : Ty
   pub read : IsProgram text program
   pub named : IsEntry program name entry
 
--- The text has no tokens, for this fault on this line.
-pub record IsUnread (text : List ℕ) (f : LexicalFault) (line : ℕ) : Type 0 where
+-- The text cannot be read, for this fault on this line.
+pub record IsUnread (text : List ℕ) (f : TextFault) (line : ℕ) : Type 0 where
   pub fits : length text ≤ max_text
   pub unreadable : IsUnreadable text f line
 
 abbrev pub HasFault : List ℕ → Type 0
-HasFault text = (f : LexicalFault) × (line : ℕ) × IsUnread text f line
+HasFault text = (f : TextFault) × (line : ℕ) × IsUnread text f line
 
--- The text has tokens, and is outside the language.
+-- The text can be read, and is outside the language.
 pub record IsOutside (text : List ℕ) : Type 0 where
   pub fits : length text ≤ max_text
-  pub tokens : HasTokens text
+  pub readable : IsReadable text
   pub unread : HasNoProgram text
 
 -- The text has a program, without a function of the name.
@@ -92,7 +92,7 @@ abbrev pub HasCause : Words → Option (List ℕ) → Type 0 → Type 0 → Refu
 HasCause words left read written Unbuilt = entry_of words ≡ None
 HasCause words left read written ReadFault = read
 HasCause words left read written TooLarge = IfSome left IsTooLarge
-HasCause words left read written (Lexical f line) = IfSome left (λ text. IsUnread text f line)
+HasCause words left read written (Unreadable f line) = IfSome left (λ text. IsUnread text f line)
 HasCause words left read written NotYet = IfSome left IsOutside
 HasCause words left read written (NotFound name) = (entry_of words ≡ Some name) × IfSome left (LacksEntry name)
 HasCause words left read written OutOfMemory = Unit {0}

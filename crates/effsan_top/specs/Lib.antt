@@ -1,6 +1,6 @@
 pub mod Streams
 pub mod Words
-pub mod Lexical
+pub mod Faults
 pub mod Programs
 pub mod Lines
 pub mod Statuses

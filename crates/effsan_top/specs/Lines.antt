@@ -4,8 +4,8 @@ use Rattle.std.specs.Fmt.{decimal}
 use Rattle.c_types.specs.Table.{basic_types}
 use Rattle.plain_meaning.specs.declared.record.Record.{Record}
 use Rattle.reports.specs.Lines.{ending_lines}
-use Rattle.effsan_top.specs.declared.lexical.LexicalFault.{LexicalFault}
-use Rattle.effsan_top.specs.Lexical.{fault_name}
+use Rattle.effsan_top.specs.declared.faults.TextFault.{TextFault}
+use Rattle.effsan_top.specs.Faults.{fault_name}
 
 -- ---- on the output
 
@@ -26,8 +26,8 @@ pub data Refusal : Type 0 where
   Words : Refusal
   ReadFault : Refusal
   TooLarge : Refusal
-  -- the text has no tokens, for this fault on this line
-  Lexical : LexicalFault → ℕ → Refusal
+  -- the text cannot be read, for this fault on this line
+  Unreadable : TextFault → ℕ → Refusal
   -- the text is outside the language
   NotYet : Refusal
   -- no function has this name
@@ -39,20 +39,20 @@ abbrev pub status_of : Refusal → ℕ
 status_of Words = 2
 status_of ReadFault = 4
 status_of TooLarge = 7
-status_of (Lexical f line) = 3
+status_of (Unreadable f line) = 3
 status_of NotYet = 3
 status_of (NotFound name) = 3
 status_of OutOfMemory = 6
 status_of WriteFault = 5
 
-abbrev pub lexical_line : LexicalFault → ℕ → List ℕ
-lexical_line f line = codes "effsan: line " ++ decimal line ++ (codes ": " ++ fault_name f) ++ codes "\n"
+abbrev pub fault_line : TextFault → ℕ → List ℕ
+fault_line f line = codes "effsan: line " ++ decimal line ++ (codes ": " ++ fault_name f) ++ codes "\n"
 
 abbrev pub line_of : Refusal → List ℕ
 line_of Words = codes "effsan: words: NotYet\n"
 line_of ReadFault = codes "effsan: read fault\n"
 line_of TooLarge = codes "effsan: source too large\n"
-line_of (Lexical f line) = lexical_line f line
+line_of (Unreadable f line) = fault_line f line
 line_of NotYet = codes "effsan: NotYet\n"
 line_of (NotFound name) = codes "effsan: entry NotFound " ++ name ++ codes "\n"
 line_of OutOfMemory = codes "effsan: out of memory\n"

@@ -4,11 +4,11 @@ use Rattle.std.specs.List.{list_any, list_all}
 use Rattle.c_tokens.specs.declared.kind.Kind.{Kind}
 use Rattle.c_tokens.specs.declared.kind.Kind.TheVariants.{Name}
 use Rattle.c_tokens.specs.declared.token.Token.{Token}
-use Rattle.c_lexer.specs.Lexes.{Tokens}
 use Rattle.c_parser.specs.declared.tree.Unit.{Unit}
 use Rattle.c_parser.specs.Grammar.{Derives}
 use Rattle.plain_meaning.specs.declared.tree.Program.{Program}
 use Rattle.plain_meaning.specs.Typed.{typed_program}
+use Rattle.effsan_top.specs.Faults.{Reads}
 
 -- a backslash, which is in a name only where a line is joined inside it
 abbrev pub is_backslash : ℕ → Bool
@@ -25,10 +25,11 @@ is_in_one_piece text t = piece_by text t t.kind
 abbrev pub names_in_one_piece : List ℕ → List Token → Bool
 names_in_one_piece text = list_all (is_in_one_piece text)
 
--- The text is cut into tokens, whose names are spelled in one piece, and which derive a unit, which has a typed tree: the program.
+-- The text is cut into tokens, its directives are obeyed and its macros replaced; the names of what is left are spelled in one
+-- piece, and it derives a unit, which has a typed tree: the program.
 pub record IsProgram (text : List ℕ) (program : Program) : Type 0 where
   pub tokens : List Token
-  pub lexed : Tokens text tokens
+  pub read : Reads text tokens
   pub whole : IsTrue (names_in_one_piece text tokens)
   pub unit : Unit
   pub derived : Derives text tokens unit

@@ -3,7 +3,7 @@
 
 mod answer;
 mod calm;
-mod lexical;
+mod faults;
 mod lines;
 mod memory;
 mod outside;

@@ -6,18 +6,19 @@ ghost use Rattle.effsan_top.specs.Errors.{of_lexer};
 ghost use Rattle.effsan_top.specs.Programs as spec;
 ghost use Rattle.effsan_top.specs.Answers.{IsOnlyProgram, HasProgramCause};
 
-use crate::lexical::{LexicalFault, line_at};
+use crate::faults::{TextFault, line_at};
 use c_lexer::{Kind, LexError, Token, lex};
 use c_parser::{ParseError, parse};
+use c_pp::{PpError, expand};
 use plain_meaning::{Program, typed};
 use std::alloc::{AllocError, Global};
 
-/// Why a text has no program: want of memory, a fault that leaves it without tokens, with its line, or it is outside the
+/// Why a text has no program: want of memory, a fault for which it cannot be read, with its line, or it is outside the
 /// language as far as that is built.
 #[derive(Debug, Drop)]
 pub enum ProgramError {
     Memory,
-    Lexical(LexicalFault, usize),
+    Unreadable(TextFault, usize),
     NotYet,
 }
 
@@ -27,21 +28,45 @@ fn unreadable(text: &[u8], error: LexError) -> ProgramError
 {
     match error {
         LexError::Memory(_) => ProgramError::Memory,
-        LexError::BadByte(at) => ProgramError::Lexical(LexicalFault::BadByte, line_at(text, at)),
+        LexError::BadByte(at) => ProgramError::Unreadable(TextFault::BadByte, line_at(text, at)),
         LexError::OpenComment(at) => {
-            ProgramError::Lexical(LexicalFault::OpenComment, line_at(text, at))
+            ProgramError::Unreadable(TextFault::OpenComment, line_at(text, at))
         }
         LexError::OpenString(at) => {
-            ProgramError::Lexical(LexicalFault::OpenString, line_at(text, at))
+            ProgramError::Unreadable(TextFault::OpenString, line_at(text, at))
         }
         LexError::NumberTooLarge(at) => {
-            ProgramError::Lexical(LexicalFault::NumberTooLarge, line_at(text, at))
+            ProgramError::Unreadable(TextFault::NumberTooLarge, line_at(text, at))
         }
         LexError::BadEscape(at) => {
-            ProgramError::Lexical(LexicalFault::BadEscape, line_at(text, at))
+            ProgramError::Unreadable(TextFault::BadEscape, line_at(text, at))
         }
         LexError::TooManyTokens(at) => {
-            ProgramError::Lexical(LexicalFault::TooManyTokens, line_at(text, at))
+            ProgramError::Unreadable(TextFault::TooManyTokens, line_at(text, at))
+        }
+    }
+}
+
+impl From<PpError> for ProgramError {
+    ghost use Rattle.effsan_top.specs.Errors.{of_expander};
+
+    ghost from_gives = { λ p e. e ≡ of_expander p };
+
+    fn from(error: PpError) -> ProgramError {
+        match error {
+            PpError::Memory(_) => ProgramError::Memory,
+            PpError::UnknownHeader(line) => {
+                ProgramError::Unreadable(TextFault::UnknownHeader, line as usize)
+            }
+            PpError::BadDirective(line) => {
+                ProgramError::Unreadable(TextFault::BadDirective, line as usize)
+            }
+            PpError::MacroLoop(line) => {
+                ProgramError::Unreadable(TextFault::MacroLoop, line as usize)
+            }
+            PpError::TooManyTokens(line) => {
+                ProgramError::Unreadable(TextFault::TooManyTokens, line as usize)
+            }
         }
     }
 }
@@ -106,7 +131,8 @@ fn names_in_one_piece(text: &[u8], tokens: &[Token]) -> bool
     true
 }
 
-/// The program of a text: its tokens, the unit that they derive, and the typed tree of that.
+/// The program of a text: its tokens, those that stand for them when macros are replaced, the unit that these derive, and
+/// the typed tree of that.
 pub fn program_of(alloc: Global, text: &[u8]) -> Result<Program, ProgramError>
     requires { length text.now ≤ 1048576 }
     ensures found { IfOk result (λ program. IsOnlyProgram text.now program) }
@@ -117,9 +143,10 @@ pub fn program_of(alloc: Global, text: &[u8]) -> Result<Program, ProgramError>
         Ok(tokens) => tokens,
         Err(error) => return Err(unreadable(text, error)),
     };
-    if !names_in_one_piece(text, tokens.as_slice()) {
+    let expanded = expand(alloc, text, tokens.as_slice())?;
+    if !names_in_one_piece(text, expanded.as_slice()) {
         return Err(ProgramError::NotYet);
     }
-    let unit = parse(alloc, text, tokens.as_slice())?;
+    let unit = parse(alloc, text, expanded.as_slice())?;
     Ok(typed(alloc, &unit)?)
 }

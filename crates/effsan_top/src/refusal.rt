@@ -4,10 +4,10 @@ ghost use Rattle.std.specs.Prelude.{◌≡◌, ◌≤◌, ◌++◌, codes, OnOk,
 ghost use Rattle.effsan_top.specs.declared.refusal.Refusal.TheVariants.{OutOfMemory};
 ghost use Rattle.effsan_top.specs.Streams.{Rose, Appends, AppendsSome};
 ghost use Rattle.std.specs.Fmt.{decimal};
-ghost use Rattle.effsan_top.specs.Lexical.{fault_name};
-ghost use Rattle.effsan_top.specs.Lines.{status_of, line_of, lexical_line};
+ghost use Rattle.effsan_top.specs.Faults.{fault_name};
+ghost use Rattle.effsan_top.specs.Lines.{status_of, line_of, fault_line};
 
-use crate::lexical::LexicalFault;
+use crate::faults::TextFault;
 use crate::program::ProgramError;
 use crate::sink::Sink;
 use crate::source::Failed;
@@ -21,7 +21,7 @@ pub enum Refusal<'a> {
     Words,
     ReadFault,
     TooLarge,
-    Lexical(LexicalFault, usize),
+    Unreadable(TextFault, usize),
     NotYet,
     NotFound(&'a [u8]),
     OutOfMemory,
@@ -44,7 +44,7 @@ impl From<ProgramError> for Refusal<'_> {
     fn from(error: ProgramError) -> Self {
         match error {
             ProgramError::Memory => Refusal::OutOfMemory,
-            ProgramError::Lexical(fault, line) => Refusal::Lexical(fault, line),
+            ProgramError::Unreadable(fault, line) => Refusal::Unreadable(fault, line),
             ProgramError::NotYet => Refusal::NotYet,
         }
     }
@@ -73,7 +73,7 @@ impl Refusal<'_> {
     {
         match self {
             Refusal::Words => 2,
-            Refusal::Lexical(..) | Refusal::NotYet | Refusal::NotFound(_) => 3,
+            Refusal::Unreadable(..) | Refusal::NotYet | Refusal::NotFound(_) => 3,
             Refusal::ReadFault => 4,
             Refusal::WriteFault => 5,
             Refusal::OutOfMemory => 6,
@@ -91,7 +91,7 @@ impl Refusal<'_> {
             Refusal::Words => write_all(err, b"effsan: words: NotYet\n"),
             Refusal::ReadFault => write_all(err, b"effsan: read fault\n"),
             Refusal::TooLarge => write_all(err, b"effsan: source too large\n"),
-            Refusal::Lexical(fault, line) => write_lexical(err, fault, line),
+            Refusal::Unreadable(fault, line) => write_unreadable(err, fault, line),
             Refusal::NotYet => write_all(err, b"effsan: NotYet\n"),
             Refusal::NotFound(name) => write_missing(err, name),
             Refusal::OutOfMemory => write_all(err, b"effsan: out of memory\n"),
@@ -122,7 +122,7 @@ fn write_line_number<E: Sink>(err: &mut E, line: usize) -> Result<(), Failed>
     write_both(err, b"effsan: line ", digits.format(line).as_bytes())
 }
 
-fn write_fault_name<E: Sink>(err: &mut E, fault: LexicalFault) -> Result<(), Failed>
+fn write_fault_name<E: Sink>(err: &mut E, fault: TextFault) -> Result<(), Failed>
     ensures ok { OnOk result (Appends (codes ": " ++ fault_name fault) (E.taken err.old) (E.taken err.new)) }
     ensures failed { OnErr result (AppendsSome (codes ": " ++ fault_name fault) (E.taken err.old) (E.taken err.new)) }
     ensures cause { OnErr result (Rose (E.faults err.old) (E.faults err.new)) }
@@ -131,9 +131,9 @@ fn write_fault_name<E: Sink>(err: &mut E, fault: LexicalFault) -> Result<(), Fai
     write_both(err, b": ", fault.name())
 }
 
-fn write_lexical<E: Sink>(err: &mut E, fault: LexicalFault, line: usize) -> Result<(), Failed>
-    ensures ok { OnOk result (Appends (lexical_line fault line) (E.taken err.old) (E.taken err.new)) }
-    ensures failed { OnErr result (AppendsSome (lexical_line fault line) (E.taken err.old) (E.taken err.new)) }
+fn write_unreadable<E: Sink>(err: &mut E, fault: TextFault, line: usize) -> Result<(), Failed>
+    ensures ok { OnOk result (Appends (fault_line fault line) (E.taken err.old) (E.taken err.new)) }
+    ensures failed { OnErr result (AppendsSome (fault_line fault line) (E.taken err.old) (E.taken err.new)) }
     ensures cause { OnErr result (Rose (E.faults err.old) (E.faults err.new)) }
 {
     write_line_number(err, line)?;

@@ -1,9 +1,9 @@
 use Rattle.std.proofs.Common.{◌++◌, codes}
 use Rattle.std.specs.Fmt.{decimal}
 use Rattle.std.proofs.lemmas.Result.{err_from_is_err_and}
-use Rattle.effsan_top.specs.Lexical.{fault_name}
+use Rattle.effsan_top.specs.Faults.{fault_name}
 use Rattle.effsan_top.proofs.Pieces.{appends_both, some_of_front, some_behind}
-use Rattle.effsan_top.proofs.refusal.write_lexical.Goals as goal
+use Rattle.effsan_top.proofs.refusal.write_unreadable.Goals as goal
 
 pub returns-in_err-write_line_number-clause-failed : goal.returns-in_err-write_line_number-clause-failed
 returns-in_err-write_line_number-clause-failed g c =

@@ -1,12 +1,12 @@
-//! Why a text has no tokens, and on which line.
+//! Why a text cannot be read, and on which line.
 
 ghost use Rattle.std.specs.Prelude.{◌≡◌, ◌≤◌, length, filter};
-ghost use Rattle.effsan_top.specs.Lexical as spec;
+ghost use Rattle.effsan_top.specs.Faults as spec;
 
-/// Why a text has no tokens. Of two reasons the first in the text is told, and of two at one place the one that stands
-/// first here.
+/// Why a text cannot be read: it has no tokens, or else a directive or a macro is at fault. Of two reasons of one kind the
+/// first in the text is told, and of two at one place the one that stands first here.
 #[derive(Clone, Copy, Debug, PartialEq, Eq)]
-pub enum LexicalFault {
+pub enum TextFault {
     /// A byte that begins no token.
     BadByte,
     /// A comment without its end.
@@ -17,22 +17,31 @@ pub enum LexicalFault {
     NumberTooLarge,
     /// A string or a character constant that means no bytes.
     BadEscape,
-    /// One token too many.
+    /// One token too many, in the text itself or when its macros are replaced.
     TooManyTokens,
+    /// An `#include` of no header of the profile.
+    UnknownHeader,
+    /// A directive that is none of the profile's.
+    BadDirective,
+    /// A macro whose replacement leads back to itself.
+    MacroLoop,
 }
 
-impl LexicalFault {
+impl TextFault {
     /// As an error line says it.
     pub fn name(self) -> &'static [u8]
         ensures { result.now ≡ spec.fault_name self }
     {
         match self {
-            LexicalFault::BadByte => b"BadByte",
-            LexicalFault::OpenComment => b"OpenComment",
-            LexicalFault::OpenString => b"OpenString",
-            LexicalFault::NumberTooLarge => b"NumberTooLarge",
-            LexicalFault::BadEscape => b"BadEscape",
-            LexicalFault::TooManyTokens => b"TooManyTokens",
+            TextFault::BadByte => b"BadByte",
+            TextFault::OpenComment => b"OpenComment",
+            TextFault::OpenString => b"OpenString",
+            TextFault::NumberTooLarge => b"NumberTooLarge",
+            TextFault::BadEscape => b"BadEscape",
+            TextFault::TooManyTokens => b"TooManyTokens",
+            TextFault::UnknownHeader => b"UnknownHeader",
+            TextFault::BadDirective => b"BadDirective",
+            TextFault::MacroLoop => b"MacroLoop",
         }
     }
 }

@@ -1,7 +1,7 @@
 use Rattle.std.proofs.Common.{◌≡◌, ◌+◌, ◌≤◌, drop, length}
 use Rattle.std.specs.Prelude.{filter}
-use Rattle.effsan_top.specs.Lexical.{is_line_end}
-use Rattle.effsan_top.proofs.lexical.line_ends.Given as goal
+use Rattle.effsan_top.specs.Faults.{is_line_end}
+use Rattle.effsan_top.proofs.faults.line_ends.Given as goal
 
 abbrev pub invariant-loop-byte : goal.invariant-loop-byte
 invariant-loop-byte l = record {

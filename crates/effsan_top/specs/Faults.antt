@@ -1,0 +1,55 @@
+-- Why a text cannot be read, and on which line: it has no tokens, or a directive or macro of it is at fault.
+use Rattle.std.specs.Prelude.{ℕ, ◌+◌, ◌==◌, Bool, List, length, filter, take, codes}
+use Rattle.c_tokens.specs.declared.token.Token.{Token}
+use Rattle.c_lexer.specs.declared.error.LexError.TheVariants as lex
+use Rattle.c_lexer.specs.Lexes.{Tokens, IsRefused}
+use Rattle.c_pp.specs.declared.error.PpError.TheVariants as pp
+use Rattle.c_pp.specs.Expands.{Expands}
+use Rattle.c_pp.specs.Expands.{IsRefused as IsStopped}
+use Rattle.effsan_top.specs.declared.faults.TextFault.{TextFault}
+use Rattle.effsan_top.specs.declared.faults.TextFault.TheVariants as fault
+
+abbrev pub fault_name : TextFault → List ℕ
+fault_name fault.BadByte = codes "BadByte"
+fault_name fault.OpenComment = codes "OpenComment"
+fault_name fault.OpenString = codes "OpenString"
+fault_name fault.NumberTooLarge = codes "NumberTooLarge"
+fault_name fault.BadEscape = codes "BadEscape"
+fault_name fault.TooManyTokens = codes "TooManyTokens"
+fault_name fault.UnknownHeader = codes "UnknownHeader"
+fault_name fault.BadDirective = codes "BadDirective"
+fault_name fault.MacroLoop = codes "MacroLoop"
+
+abbrev pub is_line_end : ℕ → Bool
+is_line_end b = b == 10
+
+-- the line of a place: the first, and one more for each line end before it
+abbrev pub line_at : List ℕ → ℕ → ℕ
+line_at text place = 1 + length (filter is_line_end (take place text))
+
+-- The text cannot be read: this is the first fault in it, and it stands on this line. A fault that leaves the text without
+-- tokens comes before those of directives and macros.
+pub data IsUnreadable (text : List ℕ) : TextFault → ℕ → Type 0 where
+  bad_byte : {place : ℕ} → IsRefused text (lex.BadByte place) → IsUnreadable text fault.BadByte (line_at text place)
+  open_comment : {place : ℕ} → IsRefused text (lex.OpenComment place) → IsUnreadable text fault.OpenComment (line_at text place)
+  open_string : {place : ℕ} → IsRefused text (lex.OpenString place) → IsUnreadable text fault.OpenString (line_at text place)
+  number_too_large : {place : ℕ} → IsRefused text (lex.NumberTooLarge place) → IsUnreadable text fault.NumberTooLarge (line_at text place)
+  bad_escape : {place : ℕ} → IsRefused text (lex.BadEscape place) → IsUnreadable text fault.BadEscape (line_at text place)
+  too_many_tokens : {place : ℕ} → IsRefused text (lex.TooManyTokens place) → IsUnreadable text fault.TooManyTokens (line_at text place)
+  unknown_header : {tokens : List Token} {line : ℕ} → Tokens text tokens → IsStopped text tokens (pp.UnknownHeader line) →
+      IsUnreadable text fault.UnknownHeader line
+  bad_directive : {tokens : List Token} {line : ℕ} → Tokens text tokens → IsStopped text tokens (pp.BadDirective line) →
+      IsUnreadable text fault.BadDirective line
+  macro_loop : {tokens : List Token} {line : ℕ} → Tokens text tokens → IsStopped text tokens (pp.MacroLoop line) →
+      IsUnreadable text fault.MacroLoop line
+  too_many_after : {tokens : List Token} {line : ℕ} → Tokens text tokens → IsStopped text tokens (pp.TooManyTokens line) →
+      IsUnreadable text fault.TooManyTokens line
+
+-- The text is cut into tokens, and these stand in place of them when its directives are obeyed and its macros replaced.
+pub record Reads (text : List ℕ) (expanded : List Token) : Type 0 where
+  pub tokens : List Token
+  pub lexed : Tokens text tokens
+  pub is : Expands text tokens expanded
+
+abbrev pub IsReadable : List ℕ → Type 0
+IsReadable text = (expanded : List Token) × Reads text expanded
