@@ -61,9 +61,7 @@ fn directives_are_obeyed_and_macros_replaced(rt: HostRuntime) -> Result<(), Fail
 }
 
 #[test]
-fn faults_of_directives_and_macros_are_told_with_their_line(
-    rt: HostRuntime,
-) -> Result<(), Fail> {
+fn faults_of_directives_and_macros_are_told_with_their_line(rt: HostRuntime) -> Result<(), Fail> {
     let cases: [(&str, &str); 11] = [
         ("#include <math.h>\n", "effsan: line 1: UnknownHeader\n"),
         ("\n#include \"x.h\"", "effsan: line 2: UnknownHeader\n"),
@@ -71,13 +69,19 @@ fn faults_of_directives_and_macros_are_told_with_their_line(
         ("\n\n#if 1\n#endif\n", "effsan: line 3: BadDirective\n"),
         ("# define", "effsan: line 1: BadDirective\n"),
         ("#define F(x) x\n", "effsan: line 1: BadDirective\n"),
-        ("#define A A\nvoid f(void) { A }", "effsan: line 2: MacroLoop\n"),
+        (
+            "#define A A\nvoid f(void) { A }",
+            "effsan: line 2: MacroLoop\n",
+        ),
         (
             "#define A B\n#define B A\n\nvoid f(void) { int x = B; }",
             "effsan: line 4: MacroLoop\n",
         ),
         // the first in the text
-        ("A\n#define A A\n#line 3\nA", "effsan: line 3: BadDirective\n"),
+        (
+            "A\n#define A A\n#line 3\nA",
+            "effsan: line 3: BadDirective\n",
+        ),
         // a byte that begins no token comes before all directives
         ("#if\n@", "effsan: line 2: BadByte\n"),
         // a macro that loops and is not used is none
@@ -104,7 +108,10 @@ fn macros_that_double_are_refused_at_one_token_too_many(rt: HostRuntime) -> Resu
     source.push_str("B17\n")?;
     let left = play(rt.alloc(), source.as_bytes())?;
     assert_eq!(rt; left.status, 3);
-    assert_eq!(rt; left.err.as_slice(), b"effsan: line 19: TooManyTokens\n".as_slice());
+    assert_eq!(rt;
+        left.err.as_slice(),
+        b"effsan: line 19: TooManyTokens\n".as_slice()
+    );
     assert_eq!(rt; left.out.len(), 0);
     Ok(())
 }
