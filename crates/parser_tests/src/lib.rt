@@ -1,0 +1,5 @@
+//! Tests of the parser of the whole grammar.
+#![tactic(auto)]
+
+#[cfg(test)]
+mod type_names;

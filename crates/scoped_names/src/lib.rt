@@ -1,0 +1,6 @@
+//! Names that were declared one after another, and the last place of each.
+#![tactic(auto)]
+
+mod names;
+
+pub use names::Names;
