@@ -3,3 +3,5 @@
 
 #[cfg(test)]
 mod type_names;
+#[cfg(test)]
+mod units;
