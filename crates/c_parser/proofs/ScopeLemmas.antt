@@ -1,126 +1,20 @@
--- Variables in scope: the function on lists says what a name means.
-use Rattle.std.proofs.Common.{◌≡◌, ℕ, zero, suc, ◌<◌, ◌^◌, List, [], ◌∷◌, ◌++◌, length, take, Option, Some, None, true, false, refl, sym, ap, subst, ◌∙◌, arith}
-use Rattle.std.specs.Prelude.{slice_get}
+-- A scope that is kept as names and uses, the first declared first.
+use Rattle.std.proofs.Common.{◌≡◌, ℕ, zero, suc, ◌+◌, ◌-◌, ◌≤◌, List, [], ◌∷◌, ◌++◌, length, take, drop, map, Option, Some, None, true, false, Bool, cond, refl, sym, ap, ◌∙◌, arith}
+use Rattle.std.specs.Prelude.{slice_get, reverse}
 use Rattle.std.specs.List.{zip}
 use Rattle.std.specs.Str.{bytes_eq}
-use Rattle.std.proofs.lemmas.Bool.{cond-false}
-use Rattle.std.proofs.lemmas.List.{map-append, length-map}
-use Rattle.std.proofs.lemmas.Slice.Zip.{firsts-zip, seconds-zip}
-use Rattle.c_tokens.specs.declared.token.Token.{Token}
-use Rattle.c_tokens.specs.declared.kind.Kind.TheVariants as k
-use Rattle.c_parser.specs.declared.tree.Pointer.{Pointer}
-use Rattle.c_parser.specs.declared.sort.Sort.{Sort}
-use Rattle.c_parser.specs.declared.sort.Sort.TheVariants as holds
-use Rattle.c_parser.specs.Scope.{Name, Variable, names, sorts, IsReserved, Means, MeansPointer}
-use Rattle.c_parser.specs.Names.{last_place, is_since, is_reserved, with_sort, meaning_at, meaning, pointer_by, pointer_of}
-use Rattle.c_parser.specs.Tokens.{kind_at, name_at}
-use Rattle.c_parser.specs.Grammar.{IsNewName}
-use Rattle.c_parser.specs.StatementSteps.{is_taken}
-use Rattle.c_parser.proofs.NameLemmas.{finds_place, is_place, last_place-none, last_place-push, since_is_own, not_since, not_reserved, none_reserved, or_false, other_name}
+use Rattle.std.proofs.lemmas.List.{map-append, length-map, reverse-append, length-reverse, take-append-drop, reverse-reverse, drop_at, take_at, take_all, take_more, drop-append-le, length-drop, length-take-le, take-map}
+use Rattle.std.proofs.lemmas.Option.{slice_get_within, get_or_from_slice_get, slice_get-map}
+use mathlib.Core.List.{reverse_aux}
+use Rattle.scoped_names.specs.Names.{last_of, last_place}
+use Rattle.c_grammar.specs.Tokens.{Name}
+use Rattle.c_grammar.specs.Scope.{Scope, Use as Means}
+use Rattle.grammar_descent.specs.Types.{declares_type, names_a_type}
+use Rattle.c_parser.specs.declared.uses.Use.{Use}
+use Rattle.c_parser.specs.declared.uses.Use.TheVariants as use_
+use Rattle.c_parser.specs.Uses.{as_use, scope_of, scope_from, says_type, declares_at}
 
--- ---- what a name means
-
-pub finds_meaning : {scope : List Variable} {name : Name} {variable : ℕ} {sort : Sort} → Means scope name variable sort → meaning scope name ≡ Some (variable, sort)
-unfolding meaning
-finds_meaning means = let last = finds_place means.last in rw (last, means.is) refl
-
-with_sort_is : (variable : ℕ) (found : Option Sort) (f : ℕ × Sort) → with_sort variable found ≡ Some f → (variable ≡ f.0) × (found ≡ Some f.1)
-with_sort_is variable (Some sort) f h = let e : (variable, sort) ≡ f = cc in (ap (λ f. f.0) e, ap (λ f. Some f.1) e)
-with_sort_is variable None f h = absurd cc
-
-meaning_at_is : (sorts : List Sort) (found : Option ℕ) (f : ℕ × Sort) → meaning_at sorts found ≡ Some f → (found ≡ Some f.0) × (slice_get sorts f.0 ≡ Some f.1)
-meaning_at_is sorts (Some variable) f h =
-    let r = with_sort_is variable (slice_get sorts variable) f h in
-    (ap (λ n. Some n) r.0, subst (λ n. slice_get sorts n ≡ Some f.1) r.0 r.1)
-meaning_at_is sorts None f h = absurd cc
-
-pub is_meaning : (scope : List Variable) (name : Name) (f : ℕ × Sort) → meaning scope name ≡ Some f → Means scope name f.0 f.1
-unfolding meaning
-is_meaning scope name f h =
-    let r = meaning_at_is (sorts scope) (last_place (names scope) name) f h in
-    record { last = is_place (names scope) name f.0 r.0; is = r.1 }
-
-pub finds_pointer : {scope : List Variable} {name : Name} {pointer : Pointer} → MeansPointer scope name pointer → pointer_of scope name ≡ Some pointer
-unfolding pointer_of
-finds_pointer means = let m = finds_meaning means in rw m refl
-
-pointer_by_is : (found : Option (ℕ × Sort)) (pointer : Pointer) → pointer_by found ≡ Some pointer → found ≡ Some (pointer.variable, holds.Pointer pointer.target)
-pointer_by_is (Some (variable, holds.Number)) pointer h = absurd cc
-pointer_by_is (Some (variable, holds.Pointer target)) pointer h =
-    let e : record { variable = variable; target = target } ≡ pointer = cc in
-    ap (λ (p : Pointer). Some (p.variable, holds.Pointer p.target)) e
-pointer_by_is None pointer h = absurd cc
-
-pub is_pointer : (scope : List Variable) (name : Name) (pointer : Pointer) → pointer_of scope name ≡ Some pointer → MeansPointer scope name pointer
-unfolding pointer_of
-is_pointer scope name pointer h = is_meaning scope name (pointer.variable, holds.Pointer pointer.target) (pointer_by_is (meaning scope name) pointer h)
-
--- ---- names of variables
-
-names-push : (scope : List Variable) (new : Variable) → names (scope ++ new ∷ []) ≡ names scope ++ new.0 ∷ []
-names-push scope new = map-append (λ (v : Variable). v.0) scope (new ∷ [])
-
-names-append : (outside own : List Variable) → names (outside ++ own) ≡ names outside ++ names own
-names-append outside own = map-append (λ (v : Variable). v.0) outside own
-
-length-names : (scope : List Variable) → length (names scope) ≡ length scope
-length-names scope = length-map scope (λ (v : Variable). v.0)
-
--- No variable in scope has a reserved name.
-pub IsClear : List Variable → Type 0
-IsClear scope = (word : Name) → IsReserved word → last_place (names scope) word ≡ None
-
-pub clear-none : IsClear []
-unfolding IsClear
-clear-none = λ word is. last_place-none word
-
-pub clear-push : (scope : List Variable) (new : Variable) → IsClear scope → (IsReserved new.0 → ⊥) → IsClear (scope ++ new ∷ [])
-unfolding IsClear
-clear-push scope new clear free = λ word is.
-    let apart : bytes_eq new.0 word ≡ false = other_name new.0 word (λ e. free (subst IsReserved (sym e) is)) in
-    ap (λ l. last_place l word) (names-push scope new)
-    ∙ last_place-push (names scope) new.0 word
-    ∙ cond-false (bytes_eq new.0 word) (Some (length (names scope))) (last_place (names scope) word) apart
-    ∙ clear word is
-
--- a name that means a variable is no reserved one
-pub not_word : {scope : List Variable} {called : Name} {variable : ℕ} {sort : Sort} → IsClear scope → Means scope called variable sort →
-    (word : Name) → IsReserved word → bytes_eq called word ≡ false
-unfolding IsClear
-not_word {scope} {called} {variable} clear means word is =
-    other_name called word (λ e.
-    let found = finds_place means.last in
-    let same : last_place (names scope) word ≡ Some variable = subst (λ l. last_place (names scope) l ≡ Some variable) e found in
-    let none = clear word is in
-    cc)
-
--- ---- names that may be declared
-
-since : (outside own : List Variable) (called : Name) →
-    is_since (length outside) (last_place (names (outside ++ own)) called) ≡ is_since (length (names outside)) (last_place (names outside ++ names own) called)
-since outside own called = rw (names-append outside own, length-names outside) refl
-
-pub not_taken : {text : List ℕ} {ts : List Token} {own : List Variable} {at : ℕ} (outside : List Variable) → IsNewName text ts own at →
-    is_taken (length outside) (outside ++ own) (name_at text ts at) ≡ false
-not_taken {text} {ts} {own} {at} outside is =
-    let called = name_at text ts at in
-    rw (not_reserved called is.free, since outside own called, not_since (names outside) (names own) called is.new) refl
-
-pub is_new : (text : List ℕ) (ts : List Token) (outside own scope : List Variable) (at : ℕ) → scope ≡ outside ++ own → kind_at ts at ≡ Some k.Name →
-    is_taken (length outside) scope (name_at text ts at) ≡ false → IsNewName text ts own at
-is_new text ts outside own scope at same named free =
-    let called = name_at text ts at in
-    let (no_reserved, no_own) = or_false (is_reserved called) (is_since (length outside) (last_place (names scope) called)) free in
-    record {
-      named = named;
-      free = none_reserved called no_reserved;
-      new = λ is.
-          let yes : is_since (length outside) (last_place (names scope) called) ≡ true =
-          rw same (since outside own called ∙ since_is_own (names outside) (names own) called is) in
-          cc;
-    }
-
--- ---- the fields of a scope
+-- ---- lists
 
 zip-push : {K X : Type 0} (ks : List K) (xs : List X) (key : K) (x : X) → length xs ≡ length ks → zip (ks ++ key ∷ []) (xs ++ x ∷ []) ≡ zip ks xs ++ (key, x) ∷ []
 zip-push [] [] key x same = refl
@@ -134,29 +28,139 @@ zip-take (suc n) [] xs = refl
 zip-take (suc n) (l ∷ ks) [] = refl
 zip-take (suc n) (l ∷ ks) (y ∷ xs) = ap (λ rest. (l, y) ∷ rest) (zip-take n ks xs)
 
-length-zip_same : (ns : List Name) (ss : List Sort) → length ss ≡ length ns → length (zip ns ss) ≡ length ss
+length-zip_same : {K X : Type 0} (ks : List K) (xs : List X) → length xs ≡ length ks → length (zip ks xs) ≡ length xs
 length-zip_same [] [] same = refl
-length-zip_same [] (y ∷ ss) same = absurd cc
-length-zip_same (l ∷ ns) [] same = absurd cc
-length-zip_same (l ∷ ns) (y ∷ ss) same = let e : length ss ≡ length ns = cc in ap suc (length-zip_same ns ss e)
+length-zip_same [] (y ∷ xs) same = absurd cc
+length-zip_same (l ∷ ks) [] same = absurd cc
+length-zip_same (l ∷ ks) (y ∷ xs) same = let e : length xs ≡ length ks = cc in ap suc (length-zip_same ks xs e)
 
--- the names and sorts of a scope, as its fields have them
-module _ (ns : List Name) (ss : List Sort) (scope : List Variable) (view : zip ns ss ≡ scope) (same : length ss ≡ length ns) where
-  pub scope_length : length ss ≡ length scope
-  scope_length = sym (length-zip_same ns ss same) ∙ ap length view
+-- the first of a list, seen from behind
+pub reverse-take : {X : Type 0} (n : ℕ) (xs : List X) → reverse (take n xs) ≡ drop (length (reverse xs) - n) (reverse xs)
+reverse-take n xs =
+    let split : reverse xs ≡ reverse (drop n xs) ++ reverse (take n xs) = ap reverse (sym (take-append-drop n xs)) ∙ reverse-append (take n xs) (drop n xs) in
+    let long : length (reverse (drop n xs)) ≡ length (reverse xs) - n = length-reverse (drop n xs) ∙ length-drop n xs ∙ ap (λ l. l - n) (sym (length-reverse xs)) in
+    sym (drop_at (reverse (drop n xs)) (reverse (take n xs)) (length (reverse xs) - n) long) ∙ ap (λ l. drop (length (reverse xs) - n) l) (sym split)
 
-  pub scope_names : names scope ≡ ns
-  scope_names = ap names (sym view) ∙ firsts-zip ns ss same
+-- the rest of a list, seen from behind
+pub reverse-drop : {X : Type 0} (n : ℕ) (xs : List X) → reverse (drop n xs) ≡ take (length (reverse xs) - n) (reverse xs)
+reverse-drop n xs =
+    let split : reverse xs ≡ reverse (drop n xs) ++ reverse (take n xs) = ap reverse (sym (take-append-drop n xs)) ∙ reverse-append (take n xs) (drop n xs) in
+    let long : length (reverse (drop n xs)) ≡ length (reverse xs) - n = length-reverse (drop n xs) ∙ length-drop n xs ∙ ap (λ l. l - n) (sym (length-reverse xs)) in
+    sym (take_at (reverse (drop n xs)) (reverse (take n xs)) (length (reverse xs) - n) long) ∙ ap (λ l. take (length (reverse xs) - n) l) (sym split)
 
-  pub names_low : length scope < 2 ^ 32 → length ns < 2 ^ 32
-  names_low low = let e = scope_length in omega arith
+-- one more of a list, seen from behind
+pub reverse_more : {X : Type 0} (xs : List X) (i : ℕ) (x : X) → slice_get xs i ≡ Some x → reverse (take (i + 1) xs) ≡ x ∷ reverse (take i xs)
+reverse_more xs i x here =
+    ap reverse (take_more xs i x (slice_get_within xs i x here) ∙ ap (λ y. take i xs ++ y ∷ []) (get_or_from_slice_get xs i x x here))
+    ∙ reverse-append (take i xs) (x ∷ [])
 
-  pub scope_meaning : (name : Name) → meaning scope name ≡ meaning_at ss (last_place ns name)
-  unfolding meaning
-  scope_meaning name = rw (← view, firsts-zip ns ss same, seconds-zip ns ss same) refl
+-- one more behind the first `count`
+pub rest_more : {X : Type 0} (xs : List X) (count i : ℕ) (x : X) → slice_get xs i ≡ Some x → count ≤ i →
+    reverse (drop count (take (i + 1) xs)) ≡ x ∷ reverse (drop count (take i xs))
+rest_more xs count i x here low =
+    let within = slice_get_within xs i x here in
+    let more : take (i + 1) xs ≡ take i xs ++ x ∷ [] = take_more xs i x within ∙ ap (λ y. take i xs ++ y ∷ []) (get_or_from_slice_get xs i x x here) in
+    let long : length (take i xs) ≡ i = length-take-le i xs (omega arith) in
+    ap (λ l. reverse (drop count l)) more
+    ∙ ap reverse (drop-append-le count (take i xs) (x ∷ []) (rw long low))
+    ∙ reverse-append (drop count (take i xs)) (x ∷ [])
 
-  pub scope_declared : (ms : List Name) (ts : List Sort) (name : Name) (sort : Sort) → ms ≡ ns ++ name ∷ [] → ts ≡ ss ++ sort ∷ [] → zip ms ts ≡ scope ++ (name, sort) ∷ []
-  scope_declared ms ts name sort a b = rw (a, b) (zip-push ns ss name sort same ∙ ap (λ l. l ++ (name, sort) ∷ []) view)
+zip_at : {K X Y : Type 0} (f : X → Y) (ks : List K) (xs : List X) (i : ℕ) (key : K) (x : X) → slice_get ks i ≡ Some key → slice_get xs i ≡ Some x →
+    slice_get (zip ks (map f xs)) i ≡ Some (key, f x)
+zip_at f [] xs i key x a b = absurd cc
+zip_at f (l ∷ ks) [] i key x a b = absurd cc
+zip_at f (l ∷ ks) (y ∷ xs) zero key x a b = let e : l ≡ key = cc in let g : y ≡ x = cc in rw (e, g) refl
+zip_at f (l ∷ ks) (y ∷ xs) (suc i) key x a b = zip_at f ks xs i key x a b
 
-  pub scope_closed : (ms : List Name) (ts : List Sort) (start : ℕ) → ms ≡ take start ns → ts ≡ take start ss → zip ms ts ≡ take start scope
-  scope_closed ms ts start a b = rw (a, b) (zip-take start ns ss ∙ ap (λ l. take start l) view)
+-- ---- which names are types
+
+-- the last one wins
+abbrev last_wins : Bool → Scope → Name → Bool
+last_wins best [] name = best
+last_wins best (d ∷ scope) name = last_wins (cond (bytes_eq d.0 name) (declares_type d.1) best) scope name
+
+from_behind : (scope behind : Scope) (name : Name) → names_a_type (reverse_aux scope behind) name ≡ last_wins (names_a_type behind name) scope name
+unfolding names_a_type
+from_behind [] behind name = refl
+from_behind (d ∷ scope) behind name = from_behind scope (d ∷ behind) name
+
+says_so : (u : Use) → says_type (Some u) ≡ declares_type (as_use u)
+says_so use_.TypeName = refl
+says_so use_.Other = refl
+
+by_choice : (uses : List Use) (b : Bool) (at : ℕ) (u : Use) (best : Option ℕ) → slice_get uses at ≡ Some u →
+    declares_at uses (cond b (Some at) best) ≡ cond b (declares_type (as_use u)) (declares_at uses best)
+by_choice uses true at u best here = rw here (says_so u)
+by_choice uses false at u best here = refl
+
+last_declares : (all : List Use) (names : List Name) (uses : List Use) (at : ℕ) (best : Option ℕ) (name : Name) → length uses ≡ length names →
+    ((k : ℕ) → slice_get all (at + k) ≡ slice_get uses k) →
+    last_wins (declares_at all best) (zip names (map as_use uses)) name ≡ declares_at all (last_of best at names name)
+last_declares all [] [] at best name same rest = refl
+last_declares all [] (u ∷ uses) at best name same rest = absurd cc
+last_declares all (first ∷ names) [] at best name same rest = absurd cc
+last_declares all (first ∷ names) (u ∷ uses) at best name same rest =
+    let e : length uses ≡ length names = cc in
+    let zero_more : at + 0 ≡ at = omega arith in
+    let here : slice_get all at ≡ Some u = ap (λ n. slice_get all n) (sym zero_more) ∙ rest 0 in
+    let later : (k : ℕ) → slice_get all (at + 1 + k) ≡ slice_get uses k = λ k.
+    let one_more : at + 1 + k ≡ at + suc k = omega arith in
+    ap (λ n. slice_get all n) one_more ∙ rest (suc k) in
+    rw (← by_choice all (bytes_eq first name) at u best here) (last_declares all names uses (at + 1) (cond (bytes_eq first name) (Some at) best) name e later)
+
+pub names_a_type-last : (names : List Name) (uses : List Use) (name : Name) → length uses ≡ length names →
+    names_a_type (scope_of names uses) name ≡ declares_at uses (last_place names name)
+unfolding names_a_type last_place
+names_a_type-last names uses name same =
+    from_behind (zip names (map as_use uses)) [] name
+    ∙ last_declares uses names uses 0 None name same (λ k. let e : 0 + k ≡ k = omega arith in ap (λ n. slice_get uses n) e)
+
+-- ---- the fields of a scope
+
+module _ (ns : List Name) (us : List Use) (scope : Scope) (view : scope_of ns us ≡ scope) (same : length us ≡ length ns) where
+  pub scope_length : length us ≡ length scope
+  scope_length =
+      sym (length-map us as_use)
+      ∙ sym (length-zip_same ns (map as_use us) (length-map us as_use ∙ same))
+      ∙ sym (length-reverse (zip ns (map as_use us)))
+      ∙ ap length view
+
+  pub scope_is_type : (name : Name) → names_a_type scope name ≡ declares_at us (last_place ns name)
+  scope_is_type name = ap (λ l. names_a_type l name) (sym view) ∙ names_a_type-last ns us name same
+
+  pub scope_declared : (ms : List Name) (vs : List Use) (name : Name) (u : Use) → ms ≡ ns ++ name ∷ [] → vs ≡ us ++ u ∷ [] →
+      scope_of ms vs ≡ (name, as_use u) ∷ scope
+  scope_declared ms vs name u a b =
+      rw (a, b, map-append as_use us (u ∷ []), zip-push ns (map as_use us) name (as_use u) (length-map us as_use ∙ same))
+      (reverse-append (zip ns (map as_use us)) ((name, as_use u) ∷ []) ∙ ap (λ l. (name, as_use u) ∷ l) view)
+
+  pub scope_closed : (ms : List Name) (vs : List Use) (count : ℕ) → ms ≡ take count ns → vs ≡ take count us →
+      scope_of ms vs ≡ drop (length scope - count) scope
+  scope_closed ms vs count a b =
+      rw (a, b, ← take-map as_use count us, zip-take count ns (map as_use us))
+      (reverse-take count (zip ns (map as_use us)) ∙ ap (λ l. drop (length l - count) l) view)
+
+  -- one name more behind the first `count`
+  pub scope_since_more : (own : Scope) (count place : ℕ) (name : Name) (u : Use) → slice_get ns place ≡ Some name → slice_get us place ≡ Some u → count ≤ place →
+      own ≡ reverse (drop count (take place (zip ns (map as_use us)))) →
+      (name, as_use u) ∷ own ≡ reverse (drop count (take (place + 1) (zip ns (map as_use us))))
+  scope_since_more own count place name u a b low so_far =
+      ap (λ l. (name, as_use u) ∷ l) so_far
+      ∙ sym (rest_more (zip ns (map as_use us)) count place (name, as_use u) (zip_at as_use ns us place name u a b) low)
+
+  pub scope_since : (own : Scope) (count place : ℕ) → length us ≤ place → own ≡ reverse (drop count (take place (zip ns (map as_use us)))) →
+      own ≡ take (length scope - count) scope
+  scope_since own count place done so_far =
+      let long : length (zip ns (map as_use us)) ≡ length us = length-zip_same ns (map as_use us) (length-map us as_use ∙ same) ∙ length-map us as_use in
+      so_far
+      ∙ ap (λ l. reverse (drop count l)) (take_all place (zip ns (map as_use us)) (rw long done))
+      ∙ reverse-drop count (zip ns (map as_use us))
+      ∙ ap (λ l. take (length l - count) l) view
+
+-- ---- the declarations of a list of parameters
+
+pub own_at : (items : List (Name × Use)) (own : Scope) (at : ℕ) (d : Name × Use) → scope_from items ≡ own → slice_get items at ≡ Some d →
+    slice_get (reverse own) at ≡ Some (d.0, as_use d.1)
+own_at items own at d view here =
+    let said : Name × Use → Name × Means = λ d. (d.0, as_use d.1) in
+    rw (← view, reverse-reverse (map said items), slice_get-map said items at, here) refl

@@ -1,4 +1,4 @@
-//! Why a text's tokens have no tree.
+//! Why tokens are no unit and no name of a type.
 
 ghost use Rattle.std.specs.Prelude.{◌≡◌, alloc_error};
 ghost use Rattle.c_parser.specs.declared.error.ParseError.TheVariants.{Memory};
@@ -11,9 +11,10 @@ use thiserror::Error;
 pub enum ParseError {
     #[error("out of memory")]
     Memory(AllocError),
-    /// The tokens are outside the part of C that is read.
-    #[error("the text cannot be read yet")]
-    NotYet,
+    /// The tokens derive nothing. This is the number of the first token, counted from 0, up to and with which no list that
+    /// derives something begins, or else how many tokens there are.
+    #[error("token {0} is one that cannot stand there")]
+    Syntax(u32),
 }
 
 impl From<AllocError> for ParseError {
@@ -25,7 +26,7 @@ impl From<AllocError> for ParseError {
 }
 
 impl<T: Drop> From<AllocFailed<T>> for ParseError {
-    ghost from_gives = { λ _ r. r ≡ Memory alloc_error };
+    ghost from_gives = { λ _ e. e ≡ Memory alloc_error };
 
     fn from(_e: AllocFailed<T>) -> ParseError {
         ParseError::Memory(AllocError)

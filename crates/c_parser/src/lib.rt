@@ -1,20 +1,36 @@
-//! The parser: from tokens to the syntax tree.
+//! The parser: from tokens to the tree that the C grammar gives them.
 #![tactic(auto)]
 
-mod assignment;
-mod declaration;
+mod declarations;
+mod declarators;
+mod declared;
+mod declaring;
+mod enumerators;
 mod error;
-mod expression;
-mod names;
-mod pointer;
+mod expressions;
+mod found;
+mod growing;
+mod growths;
+mod heads;
+mod initialisers;
+mod inner;
+mod leads;
+mod levels;
+mod members;
+mod naming;
+mod nodes;
+mod operators;
+mod parameters;
+mod phrases;
+mod reader;
 mod scope;
-mod sort;
-mod statement;
-mod tokens;
-mod tree;
-mod unit;
+mod specifiers;
+mod spelling;
+mod statements;
+mod type_words;
+mod units;
+mod uses;
+mod wrong_words;
 
-pub use c_types::Text;
 pub use error::ParseError;
-pub use tree::{Expression, Function, Operator, Place, Pointer, Statement, Target, Unit};
-pub use unit::{law_derivation, parse};
+pub use units::{parse, parse_type_name};

@@ -1,39 +1,44 @@
-//! The variables in scope, and what each name means.
+//! The names in scope, and which of them are types.
 
-ghost use Rattle.std.specs.Prelude.{◌≡◌, ◌<◌, ◌^◌, [], ◌∷◌, ◌++◌, length, take, slice_get, OnOk, OnErr};
-ghost use Rattle.c_parser.specs.Scope.{names};
-ghost use Rattle.c_parser.specs.Names.{last_place, meaning, pointer_of};
-ghost use Rattle.c_parser.specs.Names as spec;
+ghost use Rattle.std.specs.Prelude.{◌≡◌, ◌-◌, [], ◌∷◌, ◌++◌, length, take, drop, Some, IfOk, OnOk, OnErr};
+ghost use Rattle.c_grammar.specs.Scope as grammar;
+ghost use Rattle.grammar_descent.specs.Types as types;
+ghost use Rattle.c_parser.specs.Uses.{as_use, declares_at};
 
-use crate::names::Names;
-use crate::sort::Sort;
-use crate::tree::Pointer;
+use crate::declared::Own;
+use crate::uses::Use;
+use c_types::Text;
+use scoped_names::Names;
 use std::alloc::{AllocError, Global};
 use std::marker::Model;
 
-/// The variables in scope, the outermost first: contracts see the list of their names and sorts.
+/// The names in scope: contracts see them with their uses, the last declared first.
 #[derive(Drop)]
 pub struct Scope {
     names: Names,
-    sorts: Vec<Sort>,
+    uses: Vec<Use>,
 }
 
 impl Model for Scope {
-    ghost use Rattle.std.specs.Prelude.{◌≡◌, List, length};
-    ghost use Rattle.std.specs.List.{zip};
-    ghost use Rattle.c_parser.specs.Scope.{Variable};
+    ghost use Rattle.std.specs.Prelude.{◌≡◌, length};
+    ghost use Rattle.c_grammar.specs.Scope.{Scope as Declared};
+    ghost use Rattle.c_parser.specs.Uses.{scope_of};
 
-    ghost Value = { List Variable };
+    ghost Value = { Declared };
 
-    ghost view = { λ s. zip s.names s.sorts.items };
+    ghost view = { λ s. scope_of s.names s.uses.items };
 
-    ghost invariant = { λ s. length s.sorts.items ≡ length s.names };
+    ghost invariant = { λ s. length s.uses.items ≡ length s.names };
 }
 
-fn sort_at(sorts: &[Sort], at: usize) -> Option<Sort>
-    ensures { result ≡ slice_get sorts.now at }
+/// Whether what was declared there is a type.
+fn declares_type(uses: &[Use], place: usize) -> bool
+    ensures { result ≡ declares_at uses.now (Some place) }
 {
-    sorts.get(at).copied()
+    match uses.get(place) {
+        Some(Use::TypeName) => true,
+        Some(Use::Other) | None => false,
+    }
 }
 
 impl Scope {
@@ -42,69 +47,97 @@ impl Scope {
     {
         Scope {
             names: Names::new(alloc),
-            sorts: Vec::new(alloc),
+            uses: Vec::new(alloc),
         }
     }
 
-    /// How many variables are in scope.
+    /// The names of types that stand in every text (C11 7.19 and 7.20.1.1).
+    pub fn start(alloc: Global) -> Result<Scope, AllocError>
+        ensures { IfOk result (λ scope. scope ≡ grammar.start) }
+    {
+        let mut scope = Scope::new(alloc);
+        scope.declare(alloc, b"uint64_t", Use::TypeName)?;
+        scope.declare(alloc, b"uint32_t", Use::TypeName)?;
+        scope.declare(alloc, b"uint16_t", Use::TypeName)?;
+        scope.declare(alloc, b"uint8_t", Use::TypeName)?;
+        scope.declare(alloc, b"int64_t", Use::TypeName)?;
+        scope.declare(alloc, b"int32_t", Use::TypeName)?;
+        scope.declare(alloc, b"int16_t", Use::TypeName)?;
+        scope.declare(alloc, b"int8_t", Use::TypeName)?;
+        scope.declare(alloc, b"ptrdiff_t", Use::TypeName)?;
+        scope.declare(alloc, b"size_t", Use::TypeName)?;
+        Ok(scope)
+    }
+
+    /// The names of types that stand in every text, and these.
+    pub fn with_typedefs(alloc: Global, typedefs: &[Text]) -> Result<Scope, AllocError>
+        ensures { IfOk result (λ scope. scope ≡ grammar.types typedefs.now ++ grammar.start) }
+    {
+        let mut scope = Scope::start(alloc)?;
+        for i in (0..typedefs.len()).rev() {
+            scope.declare(alloc, typedefs[i].bytes(), Use::TypeName)?;
+        }
+        Ok(scope)
+    }
+
+    /// How many names are in scope.
     pub fn len(&self) -> usize
         ensures { result ≡ length self.now }
     {
-        self.sorts.len()
+        self.uses.len()
     }
 
-    /// The variable that the name means, and its sort.
-    pub fn find(&self, name: &[u8]) -> Option<(u32, Sort)>
-        ensures { result ≡ meaning self.now name.now }
-    {
-        let Some(variable) = self.names.find(name) else {
-            return None;
-        };
-        match sort_at(self.sorts.as_slice(), variable as usize) {
-            Some(sort) => Some((variable, sort)),
-            None => None,
-        }
-    }
-
-    /// The variable that the name means, if it is a pointer.
-    #[tactic(auto, unfolding(crate::specs::Names::pointer_of))]
-    pub fn pointer(&self, name: &[u8]) -> Option<Pointer>
-        ensures { result ≡ pointer_of self.now name.now }
-    {
-        match self.find(name) {
-            Some((variable, Sort::Pointer(target))) => Some(Pointer { variable, target }),
-            _ => None,
-        }
-    }
-
-    /// Whether a variable behind the first `start` has the name.
-    pub fn is_since(&self, start: usize, name: &[u8]) -> bool
-        ensures { result ≡ spec.is_since start (last_place (names self.now) name.now) }
+    /// Whether the last declaration of the name declares a type.
+    pub fn is_type(&self, name: &[u8]) -> bool
+        ensures { result ≡ types.names_a_type self.now name.now }
     {
         match self.names.find(name) {
-            Some(variable) => start <= variable as usize,
+            Some(place) => declares_type(self.uses.as_slice(), place),
             None => false,
         }
     }
 
-    /// Declares a variable behind all others.
-    pub fn declare(&mut self, alloc: Global, name: &[u8], sort: Sort) -> Result<(), AllocError>
-        requires { length self.old < 2 ^ 32 }
-        ensures ok { OnOk result (self.new ≡ self.old ++ (name.now, sort) ∷ []) }
+    /// Declares a name behind all others.
+    pub fn declare(&mut self, alloc: Global, name: &[u8], what: Use) -> Result<(), AllocError>
+        ensures ok { OnOk result (self.new ≡ (name.now, as_use what) ∷ self.old) }
         ensures err { OnErr result (self.new ≡ self.old) }
     {
-        self.sorts.reserve(1)?;
+        self.uses.reserve(1)?;
         self.names.declare(alloc, name)?;
-        let stored: Result<_, _> = self.sorts.push(sort);
+        let stored: Result<_, _> = self.uses.push(what);
         stored.unwrap();
         Ok(())
     }
 
-    /// Ends the scope of all variables but the first `start`.
-    pub fn close(&mut self, start: usize)
-        ensures { self.new ≡ take start self.old }
+    /// Ends the scope of all names but the first `count`, counted from the outermost.
+    pub fn close(&mut self, count: usize)
+        ensures { self.new ≡ drop (length self.old - count) self.old }
     {
-        self.names.close(start);
-        self.sorts.truncate(start);
+        self.names.close(count);
+        self.uses.truncate(count);
+    }
+
+    /// The names behind the first `count`, counted from the outermost.
+    pub fn since(&self, alloc: Global, count: usize) -> Result<Own, AllocError>
+        ensures { IfOk result (λ own. own ≡ take (length self.now - count) self.now) }
+    {
+        let mut own = Own::new(alloc);
+        for place in count..self.uses.len() {
+            let mut name = Text::new(alloc);
+            name.append(self.names.name(place))?;
+            own.add(name, self.uses[place])?;
+        }
+        Ok(own)
+    }
+
+    /// Declares all of them again.
+    pub fn declare_all(&mut self, alloc: Global, own: &Own) -> Result<(), AllocError>
+        ensures { OnOk result (self.new ≡ own.now ++ self.old) }
+    {
+        for i in 0..own.len() {
+            let (name, what) = own.declaration(i);
+            self.declare(alloc, name, what)?;
+        }
+        Ok(())
     }
 }

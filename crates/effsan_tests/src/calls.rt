@@ -1,21 +1,55 @@
 //! Each public call below the top one, on its happy path: with memory to be had, none answers want of it.
 
-use crate::tools::{unit_of, words_of};
-use c_lexer::lex;
-use c_parser::{Text, parse};
+use crate::tools::{repeated, words_of};
+use c_lexer::{MAX_TEXT, law_strings, lex};
+use c_parser::parse;
 use effsan_top::{
     CalmSink, CalmSource, InSource, MemSink, MemSource, OutSink, effsan_still, read_all, write_all,
 };
-use plain_meaning::{Ending, Setting, find_entry, typed};
+use plain_meaning::{Ending, Program, Record, Setting, Text, find_entry};
+use program_form::{FormError, program_of};
+use std::alloc::{AllocError, Global};
+use std::process::Abort;
 use std::test::Fail;
 use tree_walk::run;
+
+/// What a text without directives is.
+#[derive(Drop)]
+enum Form {
+    Runs(Program),
+    /// The line on which what is outside the form begins.
+    NotYet(u32),
+}
+
+fn form_of(alloc: Global, text: &[u8]) -> Result<Form, Fail> {
+    if text.len() > MAX_TEXT {
+        return Err(Fail::from("too large"));
+    }
+    let Ok(tokens) = lex(alloc, text) else {
+        return Err(Fail::from("lex"));
+    };
+    let Ok(unit) = parse(alloc, text, tokens.as_slice()) else {
+        return Err(Fail::from("parse"));
+    };
+    law_strings();
+    match program_of(alloc, text, tokens.as_slice(), &unit) {
+        Ok(program) => Ok(Form::Runs(program)),
+        Err(FormError::NotYet(line)) => Ok(Form::NotYet(line)),
+        Err(FormError::Memory(_)) => Err(Fail::from("memory")),
+    }
+}
+
+fn program_from(alloc: Global, text: &[u8]) -> Result<Program, Fail> {
+    match form_of(alloc, text)? {
+        Form::Runs(program) => Ok(program),
+        Form::NotYet(_) => Err(Fail::from("outside the form")),
+    }
+}
 
 #[test]
 fn a_program_is_read_and_run(rt: HostRuntime) -> Result<(), Fail> {
     let text = b"void g(void) { } void f(void) { printf(\"%d\\n\", 3 + 4); }";
-    let tokens = lex(rt.alloc(), text).map_err(|_| "lex")?;
-    let unit = parse(rt.alloc(), text, tokens.as_slice()).map_err(|_| "parse")?;
-    let program = typed(rt.alloc(), &unit)?;
+    let program = program_from(rt.alloc(), text)?;
     assert_eq!(rt; program.functions.len(), 2);
     let entry = find_entry(&program, b"f").map_err(|_| "entry")?;
     assert_eq!(rt; entry, 1);
@@ -35,84 +69,74 @@ fn a_program_is_read_and_run(rt: HostRuntime) -> Result<(), Fail> {
 }
 
 #[test]
-fn pointers_are_read_and_typed(rt: HostRuntime) -> Result<(), Fail> {
-    let bodies: [&str; 17] = [
-        "int *p = malloc(0);",
-        "char *p = malloc(31);",
-        "int*p=malloc(4);",
-        "int * p = malloc ( 4 ) ;",
-        "int *p = malloc(4); free(p);",
-        "int *p = malloc(4); p[0] = 1;",
-        "int *p = malloc(4); int x = p[0] + p[x];",
-        "char *p = malloc(4); p[p[0]] = p[1 + 2] * (p[3]);",
-        "int *p = malloc(4); int *q = (int *)p;",
-        "int *p = malloc(4); char *q = (char*)p;",
-        "char *p = malloc(4); int *q = ( int * ) p;",
-        "char *p = malloc(4); int *q = malloc(4); q = (int *)p;",
-        "int *p = malloc(4); int *q = malloc(4); q=(int*)p;",
-        "int *q = (int *)q;",
-        "int *p = malloc(4); { char *p = malloc(4); int *q = (int *)p; }",
-        "int p = 1; { int *p = malloc(4); free(p); } p = 2;",
-        "if (1) { int *p = malloc(4); } else { char *c = malloc(8); free(c); }",
-    ];
-    for body in bodies {
-        match unit_of(rt.alloc(), body)? {
-            None => assert!(rt; false, "{body}"),
-            Some(unit) => assert_eq!(rt; typed(rt.alloc(), &unit)?.functions.len(), 1),
+fn what_is_outside_the_form_begins_on_a_line(rt: HostRuntime) -> Result<(), Fail> {
+    let text = b"void f(void) { }\nvoid g(void)\n{ return; }\nint x;";
+    match form_of(rt.alloc(), text)? {
+        Form::Runs(_) => Err(Fail::from("of the form")),
+        Form::NotYet(line) => {
+            assert_eq!(rt; line, 2);
+            Ok(())
         }
     }
-    Ok(())
 }
 
-#[test]
-fn pointers_have_their_rules(rt: HostRuntime) -> Result<(), Fail> {
-    let bodies: [&str; 33] = [
-        // sizes
-        "int *p = malloc(32);",
-        "int *p = malloc(1 + 1);",
-        "int *p = malloc((4));",
-        "int x = 4; int *p = malloc(x);",
-        "int *p = malloc();",
-        // targets and declarations
-        "short *p = malloc(4);",
-        "void *p = malloc(4);",
-        "unsigned char *p = malloc(4);",
-        "int **p = malloc(8);",
-        "char c = 1;",
-        "int *p;",
-        "int *p = 0;",
-        "int *p = malloc(4), q = 1;",
-        "int *p = malloc(4); int *p = malloc(4);",
-        "int *p = malloc(4); int p = 1;",
-        "int p = 1; int *p = malloc(4);",
-        "if (1) int *p = malloc(4);",
-        "int *free = malloc(4);",
-        // conversions
-        "int *p = malloc(4); int *q = p;",
-        "int *p = malloc(4); int *q = (char *)p;",
-        "int *p = malloc(4); char *q = malloc(4); q = (int *)p;",
-        "int *p = malloc(4); int *q = malloc(4); q = p;",
-        "int *p = malloc(4); p = malloc(4);",
-        "int *p = malloc(4); int *q = (int *)(p);",
-        "int x = 1; int *q = (int *)x;",
-        // a number where a pointer is needed, and a pointer where a number is
-        "int x = 1; x[0] = 1;",
-        "int x = 1; int y = x[0];",
-        "int x = 1; free(x);",
-        "int *p = malloc(4); int x = p;",
-        "int *p = malloc(4); p = 1;",
-        "int *p = malloc(4); if (p) { }",
-        "int *p = malloc(4); *p = 1;",
-        "{ int *p = malloc(4); } free(p);",
-    ];
-    for body in bodies {
-        assert!(rt; unit_of(rt.alloc(), body)?.is_none(), "{body}");
+/// The record of a body that is given ten turns.
+fn with_ten_turns(alloc: Global, body: &str) -> Result<Record, Fail> {
+    let text = format!(in alloc; "void f(void) {{ {body} }}")?;
+    let program = program_from(alloc, text.as_bytes())?;
+    if program.functions.is_empty() {
+        return Err(Fail::from("no function"));
+    }
+    let setting = Setting {
+        entry: 0,
+        turns: 10,
+    };
+    Ok(run(alloc, &program, &setting)?)
+}
+
+/// The first statement, and one that is repeated so many times; whether it ends, and how many calls were made.
+static TURNS: [(&str, &str, u32, bool, u64); 7] = [
+    ("int *q = (int *)q;", "q = (int *)q;", 9, true, 0),
+    ("int *q = (int *)q;", "q = (int *)q;", 10, false, 0),
+    // the check of a conversion takes none
+    ("int *p = malloc(4);", "p = (int *)p;", 9, true, 10),
+    ("int *p = malloc(4);", "p = (int *)p;", 10, false, 10),
+    ("int *p = malloc(4);", "p[0] = 1;", 9, true, 10),
+    ("int *p = malloc(4);", "p[0] = p[0];", 5, false, 10),
+    // nor does the free of a null pointer
+    ("int *q = (int *)q;", "free(q);", 50, true, 0),
+];
+
+fn check_turns(
+    rt: &impl Abort,
+    alloc: Global,
+    rows: &[(&str, &str, u32, bool, u64)],
+) -> Result<(), Fail> {
+    for (first, piece, times, ends, calls) in rows {
+        let mut body = Vec::new(alloc);
+        body.extend_from_slice(first.as_bytes())?;
+        repeated(alloc, &mut body, piece.as_bytes(), *times)?;
+        let body = String::from_utf8(body).map_err(|_| "utf8")?;
+        let done = with_ten_turns(alloc, body.as_str())?;
+        let ending = if *ends {
+            Ending::Finished
+        } else {
+            Ending::Spent(1)
+        };
+        let endings = [Ending::Finished, ending];
+        assert_eq!(rt; done.endings.as_slice(), endings.as_slice(), "{body}");
+        assert_eq!(rt; done.history.len(), *calls, "{body}");
     }
     Ok(())
 }
 
 #[test]
-fn a_text_grows(rt: HostRuntime) -> Result<(), Fail> {
+fn conversions_and_heap_calls_take_turns(rt: HostRuntime) -> Result<(), Fail> {
+    check_turns(&rt, rt.alloc(), TURNS.as_slice())
+}
+
+#[test]
+fn a_text_grows(rt: HostRuntime) -> Result<(), AllocError> {
     let mut text = Text::new(rt.alloc());
     text.push(65)?;
     text.append(b"bc")?;

@@ -1,6 +1,6 @@
-//! Streams that fail.
+//! Words that are refused, and streams that fail.
 
-use crate::tools::words_of;
+use crate::tools::{call, words_of};
 use effsan_top::{Ending, Finished, MemSink, MemSource, effsan_still};
 use std::alloc::{AllocError, Global};
 use std::test::Fail;
@@ -98,5 +98,35 @@ fn a_fault_of_the_error_output_changes_no_status(rt: HostRuntime) -> Result<(), 
         assert_eq!(rt; err.taken(), taken.as_bytes());
         assert_eq!(rt; out.taken().len(), 0);
     }
+    Ok(())
+}
+
+#[test]
+fn other_words_are_refused(rt: HostRuntime) -> Result<(), Fail> {
+    let cases: [&[&str]; 8] = [
+        &[],
+        &["play"],
+        &["play", "--entry"],
+        &["run", "--entry", "f"],
+        &["play", "entry", "f"],
+        &["--entry", "play", "f"],
+        &["play", "--entry", "f", "g"],
+        &["check"],
+    ];
+    for words in cases {
+        let left = call(rt.alloc(), words, b"void f(void) { }")?;
+        assert_eq!(rt; left.status, 2);
+        assert_eq!(rt; left.err.as_slice(), b"effsan: words: NotYet\n".as_slice());
+        assert_eq!(rt; left.out.len(), 0);
+    }
+    let left = call(
+        rt.alloc(),
+        &["play", "--entry", "--entry"],
+        b"void f(void) { }",
+    )?;
+    assert_eq!(rt;
+        left.err.as_slice(),
+        b"effsan: entry NotFound --entry\n".as_slice()
+    );
     Ok(())
 }

@@ -12,8 +12,8 @@ mod limits;
 #[cfg(test)]
 mod macros;
 #[cfg(test)]
-mod pointers;
-#[cfg(test)]
-mod runs;
+mod refusals;
 #[cfg(test)]
 mod tools;
+#[cfg(test)]
+mod units;

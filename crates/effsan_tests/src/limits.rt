@@ -2,77 +2,121 @@
 
 use crate::tools::{play, repeated};
 use std::alloc::{AllocError, Global};
+use std::process::Abort;
 use std::test::Fail;
+
+const TOO_DEEP: &str = "effsan: line 1: Syntax\n";
+
+/// What opens, how often it does, what stands in the middle, and what closes.
+type Nest = (&'static str, u32, &'static str, &'static str);
 
 /// A function `f` whose body is `open` and `close` so many times round `middle`.
 fn nested(
     alloc: Global,
-    open: &[u8],
+    open: &str,
     times: u32,
-    middle: &[u8],
-    close: &[u8],
+    middle: &str,
+    close: &str,
 ) -> Result<Vec<u8>, AllocError> {
     let mut source = Vec::new(alloc);
     source.extend_from_slice(b"void f(void) {")?;
-    repeated(alloc, &mut source, open, times)?;
-    source.extend_from_slice(middle)?;
-    repeated(alloc, &mut source, close, times)?;
+    repeated(alloc, &mut source, open.as_bytes(), times)?;
+    source.extend_from_slice(middle.as_bytes())?;
+    repeated(alloc, &mut source, close.as_bytes(), times)?;
     source.extend_from_slice(b"}")?;
     Ok(source)
 }
 
-#[test]
-fn nodes_nest_two_hundred_deep(rt: HostRuntime) -> Result<(), Fail> {
-    // the body is one deep; each block or loop is one more; a loop's test is one deeper than it
-    let cases: [(&[u8], u32, &[u8], &[u8]); 8] = [
-        (b"{", 199, b"", b"}"),
-        (b"while (0)", 198, b"{ }", b""),
-        (b"while (0) {", 99, b"{ }", b"}"),
-        (b"if (0)", 198, b"{ }", b""),
-        (b"if (0) { } else ", 198, b"{ }", b""),
-        // what a pointer takes is one deeper than its declaration, and so is what is freed; an index is one deeper than its element
-        (b"{", 197, b"int *p = malloc(0);", b"}"),
-        (b"{", 197, b"int *p = (int *)p; free(p);", b"}"),
-        (b"{", 196, b"int *p = malloc(4); int x = p[0];", b"}"),
-    ];
-    for (open, times, middle, close) in cases {
-        let source = nested(rt.alloc(), open, times, middle, close)?;
-        assert_eq!(rt; play(rt.alloc(), source.as_slice())?.status, 0);
-        let source = nested(rt.alloc(), open, times + 1, middle, close)?;
-        assert_eq!(rt; play(rt.alloc(), source.as_slice())?.status, 3);
+/// Texts whose parts nest so many times, and once more. The body is one deep, and each block or loop is one more.
+static NESTS: [Nest; 16] = [
+    ("{", 199, "", "}"),
+    // a test is one deeper than its `while` or `if`
+    ("while (0)", 198, "{ }", ""),
+    ("while (0) {", 99, "{ }", "}"),
+    ("if (0)", 198, "{ }", ""),
+    ("if (0) { } else ", 198, "{ }", ""),
+    // a declaration is no node: its name and its value are one deeper than the block, and a `*` is a node round the name
+    ("{", 198, "int x = 1;", "}"),
+    ("{", 197, "int x = 1 + 1;", "}"),
+    ("{", 197, "int *p = malloc(0);", "}"),
+    ("{", 197, "int *p = (int *)p;", "}"),
+    ("{", 197, "int *p = malloc(4); int x = p[0];", "}"),
+    // an assignment and a call are one deeper than their statement
+    ("{", 196, "int x = 1; x = 2;", "}"),
+    ("{", 196, "int *p = (int *)p; free(p);", "}"),
+    ("{", 196, "printf(\"%d\\n\", 1);", "}"),
+    ("{", 195, "int *p = (int *)p; p = (int *)p;", "}"),
+    ("{", 195, "int *p = malloc(4); p[0] = 1;", "}"),
+    ("{", 197, "if (0) { } else { }", "}"),
+];
+
+/// Values of `int x`, which are two deep: what stands before and behind `1` so many times, and what they are.
+static VALUES: [(&str, &str, u32, u32); 3] = [
+    // each pair of parentheses is one more
+    ("(", ")", 198, 1),
+    // of n sums the first stands n deep
+    ("", " + 1", 198, 199),
+    // and of n sums in parentheses the last
+    ("1 + (", ")", 99, 100),
+];
+
+/// Nested so many times more than the row says, the text ends with this status and this on the error output.
+fn check_nest(
+    rt: &impl Abort,
+    alloc: Global,
+    nest: &Nest,
+    more: u32,
+    status: u8,
+    err: &str,
+) -> Result<(), AllocError> {
+    let (open, times, middle, close) = nest;
+    let source = nested(alloc, open, times.saturating_add(more), middle, close)?;
+    let left = play(alloc, source.as_slice())?;
+    assert_eq!(rt; left.err.as_slice(), err.as_bytes(), "{open} {middle}");
+    assert_eq!(rt; left.status, status, "{open} {middle}");
+    Ok(())
+}
+
+fn check_nests(rt: &impl Abort, alloc: Global, rows: &[Nest]) -> Result<(), AllocError> {
+    for nest in rows {
+        check_nest(rt, alloc, nest, 0, 0, "")?;
+        check_nest(rt, alloc, nest, 1, 3, TOO_DEEP)?;
     }
-    // a sum of n + 1 numbers is n sums, the first of which stands n deep
-    for (terms, status) in [(197, 0), (198, 3)] {
-        let mut source = Vec::new(rt.alloc());
-        source.extend_from_slice(b"void f(void) { int x = 1")?;
-        repeated(rt.alloc(), &mut source, b" + 1", terms)?;
-        source.extend_from_slice(b"; printf(\"%d\\n\", x); }")?;
-        let left = play(rt.alloc(), source.as_slice())?;
-        assert_eq!(rt; left.status, status);
-        if status == 0 {
-            assert_eq!(rt; left.out.as_slice(), b"198\n".as_slice());
-        }
+    Ok(())
+}
+
+/// A function that prints this value.
+fn printing(alloc: Global, open: &str, close: &str, times: u32) -> Result<Vec<u8>, AllocError> {
+    let mut source = Vec::new(alloc);
+    source.extend_from_slice(b"void f(void) { int x = ")?;
+    repeated(alloc, &mut source, open.as_bytes(), times)?;
+    source.extend_from_slice(b"1")?;
+    repeated(alloc, &mut source, close.as_bytes(), times)?;
+    source.extend_from_slice(b"; printf(\"%d\\n\", x); }")?;
+    Ok(source)
+}
+
+fn check_values(
+    rt: &impl Abort,
+    alloc: Global,
+    rows: &[(&str, &str, u32, u32)],
+) -> Result<(), AllocError> {
+    for (open, close, times, value) in rows {
+        let source = printing(alloc, open, close, *times)?;
+        let left = play(alloc, source.as_slice())?;
+        let out = format!(in alloc; "{value}\n")?;
+        assert_eq!(rt; left.out.as_slice(), out.as_bytes(), "{open}{close}");
+        let source = printing(alloc, open, close, times.saturating_add(1))?;
+        let left = play(alloc, source.as_slice())?;
+        assert_eq!(rt; left.err.as_slice(), TOO_DEEP.as_bytes(), "{open}{close}");
     }
     Ok(())
 }
 
 #[test]
-fn parentheses_nest_as_deep_as_sums(rt: HostRuntime) -> Result<(), Fail> {
-    // a declaration is two deep, and each pair of parentheses is one more
-    for (pairs, status) in [(197, 0), (198, 3)] {
-        let mut source = Vec::new(rt.alloc());
-        source.extend_from_slice(b"void f(void) { int x = ")?;
-        repeated(rt.alloc(), &mut source, b"(", pairs)?;
-        source.extend_from_slice(b"7")?;
-        repeated(rt.alloc(), &mut source, b")", pairs)?;
-        source.extend_from_slice(b"; printf(\"%d\\n\", x); }")?;
-        let left = play(rt.alloc(), source.as_slice())?;
-        assert_eq!(rt; left.status, status);
-        if status == 0 {
-            assert_eq!(rt; left.out.as_slice(), b"7\n".as_slice());
-        }
-    }
-    Ok(())
+fn parts_nest_two_hundred_deep(rt: HostRuntime) -> Result<(), AllocError> {
+    check_nests(&rt, rt.alloc(), NESTS.as_slice())?;
+    check_values(&rt, rt.alloc(), VALUES.as_slice())
 }
 
 #[test]
@@ -123,13 +167,46 @@ fn a_program_prints_a_hundred_thousand_lines(rt: HostRuntime) -> Result<(), Fail
 fn a_scope_may_have_many_names(rt: HostRuntime) -> Result<(), Fail> {
     let mut source = Vec::new(rt.alloc());
     source.extend_from_slice(b"void f(void) { int x0 = 1;")?;
-    for i in 1..28_000u32 {
+    for i in 1..20_000u32 {
         let line = format!(in rt.alloc(); "int x{i} = x{} + 1;", i - 1)?;
         source.extend_from_slice(line.as_bytes())?;
     }
-    source.extend_from_slice(b"printf(\"%d\\n\", x27999); }")?;
+    source.extend_from_slice(b"printf(\"%d\\n\", x19999); }")?;
     let left = play(rt.alloc(), source.as_slice())?;
     assert_eq!(rt; left.status, 0);
-    assert_eq!(rt; left.out.as_slice(), b"28000\n".as_slice());
+    assert_eq!(rt; left.out.as_slice(), b"20000\n".as_slice());
+    Ok(())
+}
+
+#[test]
+fn a_text_may_have_many_functions(rt: HostRuntime) -> Result<(), Fail> {
+    let mut source = Vec::new(rt.alloc());
+    for i in 0..5_000u32 {
+        let line = format!(in rt.alloc(); "void g{i}(void) {{ }}\n")?;
+        source.extend_from_slice(line.as_bytes())?;
+    }
+    source.extend_from_slice(b"void f(void) { printf(\"%d\\n\", 1); }\n")?;
+    let left = play(rt.alloc(), source.as_slice())?;
+    assert_eq!(rt; left.status, 0);
+    assert_eq!(rt; left.out.as_slice(), b"1\n".as_slice());
+    source.extend_from_slice(b"void g4999(void) { }\n")?;
+    let left = play(rt.alloc(), source.as_slice())?;
+    assert_eq!(rt; left.status, 3);
+    assert_eq!(rt;
+        left.err.as_slice(),
+        b"effsan: line 5002: NotYet\n".as_slice()
+    );
+    Ok(())
+}
+
+#[test]
+fn a_format_may_have_many_pieces(rt: HostRuntime) -> Result<(), Fail> {
+    let mut source = Vec::new(rt.alloc());
+    source.extend_from_slice(b"void f(void) { printf(\"%\"")?;
+    repeated(rt.alloc(), &mut source, b"\"\"", 150_000)?;
+    source.extend_from_slice(b"\"d\\n\", 1); }")?;
+    let left = play(rt.alloc(), source.as_slice())?;
+    assert_eq!(rt; left.status, 0);
+    assert_eq!(rt; left.out.as_slice(), b"1\n".as_slice());
     Ok(())
 }

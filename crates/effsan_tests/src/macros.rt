@@ -1,99 +1,111 @@
 //! Directives and macros, as the program reads them.
 
-use crate::tools::play;
+use crate::tools::{Refused, check_refused, play};
+use std::alloc::{AllocError, Global};
+use std::process::Abort;
 use std::test::Fail;
 
-#[test]
-fn directives_are_obeyed_and_macros_replaced(rt: HostRuntime) -> Result<(), Fail> {
-    let cases: [(&str, &str, &str); 8] = [
-        (
-            "#include <stdio.h>\n#include <stdlib.h>\n#define LAST 3\nvoid f(void) { int i = 1; while (i <= LAST) { printf(\"%d\\n\", i); i = i + 1; } }",
-            "1\n2\n3\n",
-            "",
-        ),
-        // the later of two definitions, and none
-        (
-            "#define N 1\n#define N 2\nvoid f(void) { printf(\"%d\\n\", N);\n#undef N\nint N = 3; printf(\"%d\\n\", N); }",
-            "2\n3\n",
-            "",
-        ),
-        // a whole program behind names
-        (
-            "#define BEGIN void f(void) {\n#define END }\n#define SAY(x) x\n",
-            "",
-            "effsan: line 3: BadDirective\n",
-        ),
-        (
-            "#define BEGIN void f(void) {\n#define SAY printf(\"%d\\n\",\n#define DONE );\n#define END }\nBEGIN SAY 7 DONE END",
-            "7\n",
-            "",
-        ),
-        // the tokens of a replacement have the line of the use
-        (
-            "#define FREE free(p);\n#define TWICE FREE FREE\nvoid f(void) { int *p = malloc(4);\n\n TWICE }",
-            "worker 1: line 5: DoubleFree object 1#0 offset 0\n",
-            "",
-        ),
-        // a line joined inside a name is no part of it
-        (
-            "#define VA\\\nLUE 5\nvoid f(void) { printf(\"%d\\n\", V\\\nALUE); }",
-            "5\n",
-            "",
-        ),
-        (
-            "#define EMPTY\n#\nvoid f(void) { EMPTY printf(\"%d\\n\", EMPTY 1 EMPTY); }\n#undef EMPTY",
-            "1\n",
-            "",
-        ),
-        // a name behind the one of a macro's, and a word of the language beside it
-        (
-            "#define whiles while\nvoid f(void) { int x = 1; whiles (x < 3) x = x + 1; printf(\"%d\\n\", x); }",
-            "3\n",
-            "",
-        ),
-    ];
-    for (source, out, err) in cases {
-        let left = play(rt.alloc(), source.as_bytes())?;
-        assert_eq!(rt; left.err.as_slice(), err.as_bytes(), "{source}");
+/// Texts and what they print.
+static PRINTED: [(&str, &str); 8] = [
+    (
+        "#include <stdio.h>\n#include <stdlib.h>\n#define LAST 3\nvoid f(void) { int i = 1; while (i <= LAST) { printf(\"%d\\n\", i); i = i + 1; } }",
+        "1\n2\n3\n",
+    ),
+    // the later of two definitions, and none
+    (
+        "#define N 1\n#define N 2\nvoid f(void) { printf(\"%d\\n\", N);\n#undef N\nint N = 3; printf(\"%d\\n\", N); }",
+        "2\n3\n",
+    ),
+    // a whole program behind names
+    (
+        "#define BEGIN void f(void) {\n#define SAY printf(\"%d\\n\",\n#define DONE );\n#define END }\nBEGIN SAY 7 DONE END",
+        "7\n",
+    ),
+    // the tokens of a replacement have the line of the use
+    (
+        "#define FREE free(p);\n#define TWICE FREE FREE\nvoid f(void) { int *p = malloc(4);\n\n TWICE }",
+        "worker 1: line 5: DoubleFree object 1#0 offset 0\n",
+    ),
+    // a line joined inside a name is no part of it
+    (
+        "#define VA\\\nLUE 5\nvoid f(void) { printf(\"%d\\n\", V\\\nALUE); }",
+        "5\n",
+    ),
+    (
+        "#define EMPTY\n#\nvoid f(void) { EMPTY printf(\"%d\\n\", EMPTY 1 EMPTY); }\n#undef EMPTY",
+        "1\n",
+    ),
+    // a name behind the one of a macro's, and a word of the language beside it
+    (
+        "#define whiles while\nvoid f(void) { int x = 1; whiles (x < 3) x = x + 1; printf(\"%d\\n\", x); }",
+        "3\n",
+    ),
+    // a number of another type may be defined, where it is not used
+    (
+        "#define BIG 4u\n#define SMALL 4\nvoid f(void) { int *p = malloc(SMALL); p[0] = SMALL; printf(\"%d\\n\", p[0]); }",
+        "4\n",
+    ),
+];
+
+/// Faults of directives and macros.
+static REFUSED: [Refused; 15] = [
+    ("#include <math.h>\n", "line 1: UnknownHeader"),
+    ("\n#include \"x.h\"", "line 2: UnknownHeader"),
+    ("#include", "line 1: UnknownHeader"),
+    (
+        "#include <stdio.h>\n#include <Stdio.h>\n",
+        "line 2: UnknownHeader",
+    ),
+    ("\n\n#if 1\n#endif\n", "line 3: BadDirective"),
+    ("# define", "line 1: BadDirective"),
+    ("#define F(x) x\n", "line 1: BadDirective"),
+    (
+        "#define BEGIN void f(void) {\n#define END }\n#define SAY(x) x\n",
+        "line 3: BadDirective",
+    ),
+    ("#define A A\nvoid f(void) { A }", "line 2: MacroLoop"),
+    (
+        "#define A B\n#define B A\n\nvoid f(void) { int x = B; }",
+        "line 4: MacroLoop",
+    ),
+    // the first in the text
+    ("A\n#define A A\n#line 3\nA", "line 3: BadDirective"),
+    // a byte that begins no token comes before all directives
+    ("#if\n@", "line 2: BadByte"),
+    // a replacement may make of a program what is none, or none of the form
+    (
+        "#define x 1\nvoid f(void) {\n int x = 1; }",
+        "line 3: Syntax",
+    ),
+    (
+        "#define void int\n#undef int\nvoid f(void) { }",
+        "line 1: BadDirective",
+    ),
+    (
+        "#define SIZE 4u\nvoid f(void) {\n int *p = malloc(SIZE); }",
+        "line 2: NotYet",
+    ),
+];
+
+fn check_printed(rt: &impl Abort, alloc: Global, rows: &[(&str, &str)]) -> Result<(), AllocError> {
+    for (source, out) in rows {
+        let left = play(alloc, source.as_bytes())?;
+        assert_eq!(rt; left.err.as_slice(), b"".as_slice(), "{source}");
         assert_eq!(rt; left.out.as_slice(), out.as_bytes(), "{source}");
     }
     Ok(())
 }
 
 #[test]
-fn faults_of_directives_and_macros_are_told_with_their_line(rt: HostRuntime) -> Result<(), Fail> {
-    let cases: [(&str, &str); 11] = [
-        ("#include <math.h>\n", "effsan: line 1: UnknownHeader\n"),
-        ("\n#include \"x.h\"", "effsan: line 2: UnknownHeader\n"),
-        ("#include", "effsan: line 1: UnknownHeader\n"),
-        ("\n\n#if 1\n#endif\n", "effsan: line 3: BadDirective\n"),
-        ("# define", "effsan: line 1: BadDirective\n"),
-        ("#define F(x) x\n", "effsan: line 1: BadDirective\n"),
-        (
-            "#define A A\nvoid f(void) { A }",
-            "effsan: line 2: MacroLoop\n",
-        ),
-        (
-            "#define A B\n#define B A\n\nvoid f(void) { int x = B; }",
-            "effsan: line 4: MacroLoop\n",
-        ),
-        // the first in the text
-        (
-            "A\n#define A A\n#line 3\nA",
-            "effsan: line 3: BadDirective\n",
-        ),
-        // a byte that begins no token comes before all directives
-        ("#if\n@", "effsan: line 2: BadByte\n"),
-        // a macro that loops and is not used is none
-        ("#define A A\nint x;", "effsan: NotYet\n"),
-    ];
-    for (source, err) in cases {
-        let left = play(rt.alloc(), source.as_bytes())?;
-        assert_eq!(rt; left.status, 3, "{source}");
-        assert_eq!(rt; left.err.as_slice(), err.as_bytes(), "{source}");
-        assert_eq!(rt; left.out.len(), 0, "{source}");
-    }
-    Ok(())
+fn directives_are_obeyed_and_macros_replaced(rt: HostRuntime) -> Result<(), AllocError> {
+    check_printed(&rt, rt.alloc(), PRINTED.as_slice())
+}
+
+#[test]
+fn faults_of_directives_and_macros_are_told_with_their_line(
+    rt: HostRuntime,
+) -> Result<(), AllocError> {
+    check_refused(&rt, rt.alloc(), REFUSED.as_slice())
 }
 
 #[test]

@@ -1,10 +1,8 @@
-//! What the tests share: a call of the program with everything in memory.
+//! What the tests share: a call of the program with everything in memory, and tables of texts.
 
-use c_lexer::{MAX_TEXT, lex};
-use c_parser::{ParseError, Unit, parse};
-use effsan_top::{MemSink, MemSource, Record, effsan_still};
+use effsan_top::{MemSink, MemSource, effsan_still};
 use std::alloc::{AllocError, Global};
-use std::test::Fail;
+use std::process::Abort;
 
 /// What a call left behind.
 #[derive(Drop)]
@@ -12,7 +10,6 @@ pub struct Left {
     pub status: u8,
     pub out: Vec<u8>,
     pub err: Vec<u8>,
-    pub run: Record,
 }
 
 /// Words of the command line.
@@ -35,7 +32,6 @@ pub fn call(alloc: Global, words: &[&str], source: &[u8]) -> Result<Left, AllocE
         status: done.status,
         out: out.taken().to_vec(alloc)?,
         err: err.taken().to_vec(alloc)?,
-        run: done.run,
     })
 }
 
@@ -44,30 +40,44 @@ pub fn play(alloc: Global, source: &[u8]) -> Result<Left, AllocError> {
     call(alloc, &["play", "--entry", "f"], source)
 }
 
-/// `play --entry f` on a body of `f`.
-pub fn play_body(alloc: Global, body: &str) -> Result<Left, AllocError> {
-    let source = format!(in alloc; "void f(void) {{ {body} }}")?;
-    play(alloc, source.as_bytes())
+/// A text, and the reason for which it is refused.
+pub type Refused = (&'static str, &'static str);
+
+/// The text is refused for this reason, and nothing is printed.
+pub fn check_refusal(
+    rt: &impl Abort,
+    alloc: Global,
+    source: &str,
+    reason: &str,
+) -> Result<(), AllocError> {
+    let left = play(alloc, source.as_bytes())?;
+    let line = format!(in alloc; "effsan: {reason}\n")?;
+    assert_eq!(rt; left.err.as_slice(), line.as_bytes(), "{source}");
+    assert_eq!(rt; left.status, 3, "{source}");
+    assert_eq!(rt; left.out.len(), 0, "{source}");
+    Ok(())
 }
 
-/// A body in which `P(e)` stands for the call that prints e.
-pub fn body_of(alloc: Global, short: &str) -> Result<String, AllocError> {
-    short.replace(alloc, "P(", "printf(\"%d\\n\", ")
+/// Each text is refused for the reason beside it.
+pub fn check_refused(rt: &impl Abort, alloc: Global, rows: &[Refused]) -> Result<(), AllocError> {
+    for (source, reason) in rows {
+        check_refusal(rt, alloc, source, reason)?;
+    }
+    Ok(())
 }
 
-/// The unit of a function `f` with this body, where it has one.
-pub fn unit_of(alloc: Global, body: &str) -> Result<Option<Unit>, Fail> {
-    let text = format!(in alloc; "void f(void) {{ {body} }}")?;
-    let text = text.as_bytes();
-    if text.len() > MAX_TEXT {
-        return Err(Fail::from("too large"));
-    }
-    let tokens = lex(alloc, text).map_err(|_| "lex")?;
-    match parse(alloc, text, tokens.as_slice()) {
-        Ok(unit) => Ok(Some(unit)),
-        Err(ParseError::NotYet) => Ok(None),
-        Err(ParseError::Memory(_)) => Err(Fail::from("memory")),
-    }
+/// The text runs to its end, and prints this.
+pub fn check_run(
+    rt: &impl Abort,
+    alloc: Global,
+    source: &str,
+    out: &str,
+) -> Result<(), AllocError> {
+    let left = play(alloc, source.as_bytes())?;
+    assert_eq!(rt; left.err.as_slice(), b"".as_slice(), "{source}");
+    assert_eq!(rt; left.status, 0, "{source}");
+    assert_eq!(rt; left.out.as_slice(), out.as_bytes(), "{source}");
+    Ok(())
 }
 
 /// A text many times over.

@@ -17,8 +17,9 @@ use Rattle.effsan_top.specs.declared.faults.TextFault.{TextFault}
 use Rattle.effsan_top.specs.Lines as line
 use Rattle.effsan_top.specs.Lines.{status_of}
 use Rattle.effsan_top.specs.Statuses.{Exactly, is_answer, is_run, is_status, run_status, some_reported, some_spent, status_by}
-use Rattle.effsan_top.specs.Causes.{IsTooLarge, Accepts, IsUnread, IsOutside, LacksEntry, IsRefused, EndsAlone, HasRun, HasCause, AnswersAccepted, AnswersAlone, setting_of}
-use Rattle.effsan_top.specs.Answers.{RunsText, LacksName, IsFaulty, IsForeign, HasProgramCause, HasTextCause, OfRead, HasReadCause, HasNoRunFor, RunsFor}
+use Rattle.effsan_top.specs.Causes.{IsFaulty as IsFaultyText}
+use Rattle.effsan_top.specs.Causes.{IsTooLarge, Accepts, LacksEntry, IsRefused, EndsAlone, HasRun, HasCause, AnswersAccepted, AnswersAlone, setting_of}
+use Rattle.effsan_top.specs.Answers.{RunsText, LacksName, IsFaulty, HasProgramCause, HasTextCause, OfRead, HasReadCause, HasNoRunFor, RunsFor}
 use Rattle.effsan_top.specs.Refusals.{seen}
 use Rattle.effsan_top.specs.Errors.{of_program}
 use Rattle.effsan_top.specs.declared.program.ProgramError.{ProgramError}
@@ -71,25 +72,19 @@ by_refusal name text read line.Words h = absurd h
 by_refusal name text read line.ReadFault h = in_place name text 4 (inl refl)
 by_refusal name text read line.TooLarge h = record {
   too_large = (λ _. h, λ _. inl refl);
-  refused = apart 3 7 _ (λ e. omega arith) (λ r. elim r [ inl u ↦ (let fits = u.2.fits in omega arith) | inr s ↦ elim s [ inl o ↦ (let fits = o.fits in omega arith) | inr l ↦ (let fits = l.fits in omega arith) ] ]);
+  refused = apart 3 7 _ (λ e. omega arith) (λ r. elim r [ inl u ↦ (let fits = u.2.fits in omega arith) | inr l ↦ (let fits = l.fits in omega arith) ]);
   accepted = λ program entry a. absurd (let fits = a.fits in omega arith);
   alone = λ ending e. absurd (let fits = e.accepted.fits in omega arith);
 }
-by_refusal name text read (line.Unreadable f l) h = record {
+by_refusal name text read (line.Faulty f l) h = record {
   too_large = apart 7 3 _ (λ e. omega arith) (λ large. omega (arith, h.0, large));
-  refused = (λ _. inl (f, l, record { fits = h.0; unreadable = h.1.unreadable }), λ _. inl refl);
-  accepted = λ program entry a. absurd (h.1.unread program a.read);
-  alone = λ ending e. absurd (h.1.unread e.program e.accepted.read);
-}
-by_refusal name text read line.NotYet h = record {
-  too_large = apart 7 3 _ (λ e. omega arith) (λ large. omega (arith, h.0, large));
-  refused = (λ _. inr (inl (record { fits = h.0; readable = h.1.readable; unread = h.1.unread })), λ _. inl refl);
-  accepted = λ program entry a. absurd (h.1.unread program a.read);
-  alone = λ ending e. absurd (h.1.unread e.program e.accepted.read);
+  refused = (λ _. inl (f, l, record { fits = h.0; fault = h.1.fault }), λ _. inl refl);
+  accepted = λ program entry a. absurd (h.1.without program a.read);
+  alone = λ ending e. absurd (h.1.without e.program e.accepted.read);
 }
 by_refusal name text read (line.NotFound missing) h = record {
   too_large = apart 7 3 _ (λ e. omega arith) (λ large. omega (arith, h.1.0, large));
-  refused = (λ _. inr (inr (record { fits = h.1.0; program = h.1.1.program; read = h.1.1.read.is; missing = h.1.1.missing })), λ _. inl refl);
+  refused = (λ _. inr (record { fits = h.1.0; program = h.1.1.program; read = h.1.1.read.is; missing = h.1.1.missing }), λ _. inl refl);
   accepted = λ program entry a. absurd (lacking name text program entry h.1.1 a);
   alone = λ ending e. absurd (lacking name text e.program e.entry h.1.1 e.accepted);
 }
@@ -102,8 +97,7 @@ asked_by : (words : Words) (left : Option (List ℕ)) (read : Type 0) (refusal :
 asked_by words left read line.Words h = inl (h, refl)
 asked_by words left read line.ReadFault h = inr h
 asked_by words left read line.TooLarge h = inr h
-asked_by words left read (line.Unreadable f l) h = inr h
-asked_by words left read line.NotYet h = inr h
+asked_by words left read (line.Faulty f l) h = inr h
 asked_by words left read (line.NotFound missing) h = inr h
 asked_by words left read line.OutOfMemory h = inr h
 asked_by words left read line.WriteFault h = inr h
@@ -133,9 +127,7 @@ is_refusal words left read line.ReadFault h =
     record { words_only = λ e. absurd (omega arith); words_first = λ none. absurd (let some = h.1 in cc); answer = refl; run = refl; known = refl; unwritten = λ e. omega arith }
 is_refusal words left read line.TooLarge h =
     record { words_only = λ e. absurd (omega arith); words_first = λ none. absurd (let some = h.1 in cc); answer = refl; run = refl; known = refl; unwritten = λ e. omega arith }
-is_refusal words left read (line.Unreadable f l) h =
-    record { words_only = λ e. absurd (omega arith); words_first = λ none. absurd (let some = h.1 in cc); answer = refl; run = refl; known = refl; unwritten = λ e. omega arith }
-is_refusal words left read line.NotYet h =
+is_refusal words left read (line.Faulty f l) h =
     record { words_only = λ e. absurd (omega arith); words_first = λ none. absurd (let some = h.1 in cc); answer = refl; run = refl; known = refl; unwritten = λ e. omega arith }
 is_refusal words left read (line.NotFound missing) h =
     record { words_only = λ e. absurd (omega arith); words_first = λ none. absurd (let some = h.1 in cc); answer = refl; run = refl; known = refl; unwritten = λ e. omega arith }
@@ -144,13 +136,9 @@ is_refusal words left read line.OutOfMemory h =
 is_refusal words left read line.WriteFault h = absurd h.2
 
 -- its cause, as the public clause says it
-faulty : (f : TextFault) (l : ℕ) (left : Option (List ℕ)) → OfRead left (λ text. IsFaulty text f l) → IfSome left (λ text. IsUnread text f l)
+faulty : (f : TextFault) (l : ℕ) (left : Option (List ℕ)) → OfRead left (λ text. IsFaulty text f l) → IfSome left (λ text. IsFaultyText text f l)
 faulty f l None h = tt
-faulty f l (Some text) h = record { fits = h.0; unreadable = h.1.unreadable }
-
-outside : (left : Option (List ℕ)) → OfRead left IsForeign → IfSome left IsOutside
-outside None h = tt
-outside (Some text) h = record { fits = h.0; readable = h.1.readable; unread = h.1.unread }
+faulty f l (Some text) h = record { fits = h.0; fault = h.1.fault }
 
 lacks : (name : List ℕ) (left : Option (List ℕ)) → OfRead left (LacksName name) → IfSome left (LacksEntry name)
 lacks name None h = tt
@@ -160,8 +148,7 @@ pub has_cause : (words : Words) (left : Option (List ℕ)) (read written : Type 
 has_cause words left read written line.Words h = h
 has_cause words left read written line.ReadFault h = h.2
 has_cause words left read written line.TooLarge h = h.2
-has_cause words left read written (line.Unreadable f l) h = faulty f l left h.2
-has_cause words left read written line.NotYet h = outside left h.2
+has_cause words left read written (line.Faulty f l) h = faulty f l left h.2
 has_cause words left read written (line.NotFound missing) h =
     (h.1 ∙ ap (λ n. Some n) (sym h.2.0), subst (λ n. IfSome left (LacksEntry n)) (sym h.2.0) (lacks h.0 left h.2.1))
 has_cause words left read written line.OutOfMemory h = tt
@@ -207,9 +194,8 @@ module _ (name text : List ℕ) (run : Record) (fits : length text ≤ max_text)
       same_end law ending (subst (λ n. (worker r.program (setting_of n) []).end ≡ Ends ending) entries here)
 
   not_refused : IsRefused name text → ⊥
-  not_refused (inl u) = r.read.readable u.0 u.1 u.2.unreadable
-  not_refused (inr (inl o)) = o.unread r.program r.read.is
-  not_refused (inr (inr l)) =
+  not_refused (inl u) = r.read.sound u.0 u.1 u.2.fault
+  not_refused (inr l) =
       let same = r.read.only l.program l.read in
       l.missing r.entry (subst (λ p. Named p r.entry name) (sym same) r.named.named)
 
@@ -298,8 +284,7 @@ of_read (Some told) text P is fits p = (rw (sym is) fits, subst P is p)
 
 pub text_cause : (words : Words) (left : Option (List ℕ)) (read : Type 0) (name text : List ℕ) (refusal : line.Refusal) → entry_of words ≡ Some name →
     IfSome left (λ told. text ≡ told) → length text ≤ max_text → HasTextCause name text refusal → HasNoRunFor words left read refusal
-text_cause words left read name text (line.Unreadable f l) asked is fits h = (name, asked, of_read left text (λ t. IsFaulty t f l) is fits h)
-text_cause words left read name text line.NotYet asked is fits h = (name, asked, of_read left text IsForeign is fits h)
+text_cause words left read name text (line.Faulty f l) asked is fits h = (name, asked, of_read left text (λ t. IsFaulty t f l) is fits h)
 text_cause words left read name text (line.NotFound missing) asked is fits h = (name, asked, (h.0, of_read left text (LacksName name) is fits h.1))
 text_cause words left read name text line.OutOfMemory asked is fits h = (name, asked, tt)
 text_cause words left read name text line.Words asked is fits h = absurd h
@@ -313,8 +298,7 @@ text_run words left name text run asked is fits h = record { name = name; asked 
 
 pub program_cause : (name text : List ℕ) (e : ProgramError) → HasProgramCause text e → HasTextCause name text (seen (of_program e))
 program_cause name text error.Memory h = tt
-program_cause name text (error.Unreadable f l) h = h
-program_cause name text error.NotYet h = h
+program_cause name text (error.Faulty f l) h = h
 
 pub not_five : (endings : List Ending) → run_status endings ≡ 5 → ⊥
 not_five endings five = elim (run_statuses endings) [

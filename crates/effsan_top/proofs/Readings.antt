@@ -1,6 +1,7 @@
 -- What the lexer, the preprocessor and the parser say of a text, together.
-use Rattle.std.proofs.Common.{◌≡◌, ℕ, List, sym, ap, ◌∙◌, subst, ◌⊎◌, inl, inr}
-use Rattle.std.specs.Prelude.{alloc_error, IsTrue}
+use Rattle.std.proofs.Common.{◌≡◌, ℕ, ◌<◌, ◌≤◌, List, [], ◌∷◌, length, refl, sym, ap, ◌∙◌, subst, ◌⊎◌, inl, inr, Result, Ok, Err, arith}
+use Rattle.std.specs.Prelude.{alloc_error, All, Contains}
+use Rattle.std.proofs.lemmas.List.Elements.{All-nil, All-cons, All-head, All-tail}
 use Rattle.c_tokens.specs.declared.token.Token.{Token}
 use Rattle.c_lexer.specs.declared.error.LexError.{LexError}
 use Rattle.c_lexer.specs.declared.error.LexError.TheVariants as lex
@@ -9,15 +10,36 @@ use Rattle.c_pp.specs.declared.error.PpError.{PpError}
 use Rattle.c_pp.specs.declared.error.PpError.TheVariants as pp
 use Rattle.c_pp.specs.Expands.{Expands}
 use Rattle.c_pp.specs.Expands.{IsRefused as IsStopped}
-use Rattle.c_parser.specs.declared.tree.Unit.{Unit}
-use Rattle.c_parser.specs.Grammar.{Derives}
+use Rattle.c_pp.specs.Expands.{IsDrawn}
+use Rattle.c_tokens.specs.declared.kind.Kind.TheVariants.{Str}
+use Rattle.c_lexer.specs.Escapes.{IsStringOf}
+use Rattle.c_grammar.specs.declared.units.Unit.{Unit}
+use Rattle.c_grammar.specs.Units as grammar
+use Rattle.c_grammar.specs.Units.{Derives}
+use Rattle.plain_meaning.specs.declared.tree.Function.{Function}
 use Rattle.plain_meaning.specs.declared.tree.Program.{Program}
-use Rattle.plain_meaning.specs.Typed.{typed_program}
+use Rattle.program_form.specs.declared.error.FormError.{FormError}
+use Rattle.program_form.specs.declared.error.FormError.TheVariants as form
+use Rattle.program_form.specs.Programs.{Forms, IsForm, IsOutside}
+use Rattle.program_form.specs.Strings.{MeansBytes, HaveStrings}
 use Rattle.effsan_top.specs.declared.faults.TextFault.{TextFault}
+use Rattle.effsan_top.specs.declared.faults.TextFault.TheVariants as fault
+use Rattle.effsan_top.specs.declared.program.ProgramError.{ProgramError}
+use Rattle.effsan_top.specs.declared.program.ProgramError.TheVariants as error
+use Rattle.effsan_top.specs.Faults as at_fault
+use Rattle.effsan_top.specs.Faults.{Reads, IsAtFault, unreadable, syntax}
 use Rattle.effsan_top.specs.Faults.{IsUnreadable, bad_byte, open_comment, open_string, number_too_large, bad_escape, too_many_tokens, unknown_header, bad_directive, macro_loop, too_many_after}
-use Rattle.effsan_top.specs.Programs.{IsProgram, names_in_one_piece}
-use Rattle.effsan_top.specs.Errors.{of_lexer, of_expander}
-use Rattle.effsan_top.specs.Answers.{IsOnlyProgram, IsFaulty, HasProgramCause}
+use Rattle.effsan_top.specs.Programs.{IsProgram}
+use Rattle.effsan_top.specs.Errors.{of_lexer, of_expander, of_form}
+use Rattle.effsan_top.specs.Answers.{IsOnlyProgram, IsFaulty, IsReading, IsNoUnit, HasUnitCause, HasProgramCause}
+
+-- each string literal of a text means bytes
+abbrev pub StringsLaw : List ℕ → Type 0
+StringsLaw text = (ts : List Token) (t : Token) → Tokens text ts → Contains ts t → t.kind ≡ Str → (bytes : List ℕ) × IsStringOf text t.start t.end bytes
+
+-- a unit is one program, or is outside the form for one line
+abbrev pub FormLaw : Type 0
+FormLaw = (text : List ℕ) (tokens : List Token) (unit : Unit) (a b : Result (List Function) ℕ) → Forms text tokens unit a → Forms text tokens unit b → a ≡ b
 
 module _ (text : List ℕ) where
   -- ---- there are no tokens
@@ -26,7 +48,7 @@ module _ (text : List ℕ) where
   WithoutTokens e = (ts : List Token) → Tokens text ts → e ≡ lex.Memory alloc_error
 
   unlexed : {f : TextFault} {line : ℕ} → ((ts : List Token) → Tokens text ts → ⊥) → IsUnreadable text f line → IsFaulty text f line
-  unlexed none is = record { unreadable = is; unread = λ program p. none p.read.tokens p.read.lexed }
+  unlexed none is = record { fault = unreadable is; without = λ program p. none p.read.tokens p.read.lexed }
 
   pub lexer_cause : (e : LexError) → (e ≡ lex.Memory alloc_error) ⊎ IsRefused text e → WithoutTokens e → HasProgramCause text (of_lexer text e)
   lexer_cause (lex.Memory m) r none = tt
@@ -52,8 +74,8 @@ module _ (text : List ℕ) where
     unexpanded : {f : TextFault} {line : ℕ} → ((out : List Token) → Expands text tokens out → ⊥) → IsUnreadable text f line → IsFaulty text f line
     unexpanded none is =
         record {
-          unreadable = is;
-          unread = λ program p. none p.tokens (subst (λ ts. Expands text ts p.tokens) (sym (alone p.read.tokens p.read.lexed)) p.read.is);
+          fault = unreadable is;
+          without = λ program p. none p.tokens (subst (λ ts. Expands text ts p.tokens) (sym (alone p.read.tokens p.read.lexed)) p.read.is);
         }
 
     pub expander_cause : (e : PpError) → (e ≡ pp.Memory alloc_error) ⊎ IsStopped text tokens e → WithoutExpansion e → HasProgramCause text (of_expander e)
@@ -86,15 +108,85 @@ module _ (text : List ℕ) where
       readable f line (macro_loop t r) = stopped _ _ t r
       readable f line (too_many_after t r) = stopped _ _ t r
 
-      same_tokens : (program : Program) (p : IsProgram text program) → out ≡ p.tokens
-      same_tokens program p = one p.tokens (subst (λ ts. Expands text ts p.tokens) (sym (alone p.read.tokens p.read.lexed)) p.read.is)
+      -- the tokens that the text becomes mean what those of the text mean
+      drawn : StringsLaw text → All (IsDrawn tokens) out → HaveStrings text out
+      drawn law = each out
+        where
+          of_one : (t : Token) → IsDrawn tokens t → MeansBytes text t
+          of_one t d = λ is.
+              let (bytes, means) = law tokens d.source lexed d.from_text (ap (λ (k : Token). k.kind) (sym d.same) ∙ is) in
+              let P : Token → Type 0 = λ k. IsStringOf text k.start k.end bytes in
+              (bytes, subst P (sym d.same) means)
 
-      pub only_program : (unit : Unit) (program : Program) → IsTrue (names_in_one_piece text out) → Derives text out unit →
-          ((other : Unit) → Derives text out other → unit ≡ other) → program ≡ typed_program unit → IsOnlyProgram text program
-      only_program unit program whole derived single typed = record {
-        is = record { tokens = out; read = record { tokens = tokens; lexed = lexed; is = expanded }; whole = whole; unit = unit; derived = derived; typed = sym typed };
-        only = λ other p.
-            (let units = single p.unit (subst (λ ts. Derives text ts p.unit) (sym (same_tokens other p)) p.derived) in
-            sym p.typed ∙ ap typed_program (sym units) ∙ sym typed);
+          each : (ts : List Token) → All (IsDrawn tokens) ts → HaveStrings text ts
+          each [] h = All-nil (MeansBytes text)
+          each (t ∷ ts) h = All-cons (MeansBytes text) t ts (of_one t (All-head (IsDrawn tokens) t ts h)) (each ts (All-tail (IsDrawn tokens) t ts h))
+
+      pub reading : StringsLaw text → All (IsDrawn tokens) out → length out ≤ 200000 → IsReading text out
+      reading law from few = record {
+        reads = record { tokens = tokens; lexed = lexed; is = expanded };
+        only = λ other r. sym (one other (subst (λ ts. Expands text ts other) (sym (alone r.tokens r.lexed)) r.is));
         readable = readable;
+        strings = drawn law from;
+        few = few;
       }
+
+-- ---- what the text becomes, and its unit
+
+-- where no unit is derived, there are tokens, since no tokens are a unit of nothing
+pub no_unit : (text : List ℕ) (tokens : List Token) (line : ℕ) → (0 < length tokens → (token : Token) × Contains tokens token × (line ≡ token.line)) →
+    ((unit : Unit) → Derives text tokens unit → ⊥) → IsNoUnit text tokens fault.Syntax line
+no_unit text [] line at nothing = absurd (nothing (record { items = [] }) grammar.none)
+no_unit text (t ∷ ts) line at nothing =
+    let some = at (omega arith) in
+    record { named = refl; token = some.0; stands = some.1; on = some.2; none = nothing }
+
+module _ (text : List ℕ) (tokens : List Token) (r : IsReading text tokens) where
+  pub without_unit : (e : ProgramError) → HasUnitCause text tokens e → HasProgramCause text e
+  without_unit error.Memory h = tt
+  without_unit (error.Faulty f line) h =
+      let told : IsAtFault text fault.Syntax h.token.line = syntax r.reads h.stands h.none in
+      let named : IsAtFault text f h.token.line = subst (λ g. IsAtFault text g h.token.line) (sym h.named) told in
+      record {
+        fault = subst (λ l. IsAtFault text f l) (sym h.on) named;
+        without = λ program p. h.none p.unit (subst (λ ts. Derives text ts p.unit) (r.only p.tokens p.read) p.derived);
+      }
+
+  module _ (unit : Unit) (derived : Derives text tokens unit) (single : (other : Unit) → Derives text tokens other → other ≡ unit) (law : FormLaw) where
+    -- what the unit of the text is as a program
+    same_form : (others : List Token) (other : Unit) (answer : Result (List Function) ℕ) → Reads text others → Derives text others other →
+        Forms text others other answer → Forms text tokens unit answer
+    same_form others other answer reads derives forms =
+        let ts = r.only others reads in
+        let here : Derives text tokens other = subst (λ l. Derives text l other) ts derives in
+        let there : Forms text tokens other answer = subst (λ l. Forms text l other answer) ts forms in
+        subst (λ u. Forms text tokens u answer) (single other here) there
+
+    form_of : (program : Program) → IsProgram text program → IsForm text tokens unit program
+    form_of program p = same_form p.tokens p.unit (Ok program.functions) p.read p.derived p.formed
+
+    pub not_yet : (line : ℕ) → IsOutside text tokens unit line → IsFaulty text fault.NotYet line
+    not_yet line is = record {
+      fault = at_fault.not_yet r.reads derived is;
+      without = λ program p. (let e = law text tokens unit (Ok program.functions) (Err line) (form_of program p) is in cc);
+    }
+
+    pub form_cause : (e : FormError) → ((line : ℕ) → e ≡ form.NotYet line → IsOutside text tokens unit line) → HasProgramCause text (of_form e)
+    form_cause (form.Memory m) h = tt
+    form_cause (form.NotYet line) h = not_yet line (h line refl)
+
+    sound : (program : Program) → IsForm text tokens unit program → (f : TextFault) (line : ℕ) → IsAtFault text f line → ⊥
+    sound program is f line (unreadable u) = r.readable f line u
+    sound program is f line (syntax {tokens = others} reads stands none) = none unit (subst (λ ts. Derives text ts unit) (sym (r.only others reads)) derived)
+    sound program is f line (at_fault.not_yet {tokens = others} {unit = other} reads derives outside) =
+        let e = law text tokens unit (Ok program.functions) (Err line) is (same_form others other (Err line) reads derives outside) in cc
+
+    pub only_program : (program : Program) → IsForm text tokens unit program → IsOnlyProgram text program
+    only_program program is = record {
+      is = record { tokens = tokens; read = r.reads; unit = unit; derived = derived; formed = is };
+      only = λ other p.
+          (let e : Ok other.functions ≡ Ok program.functions = law text tokens unit (Ok other.functions) (Ok program.functions) (form_of other p) is in
+          let same : other.functions ≡ program.functions = cc in
+          ap (λ (l : List Function). record { functions = l }) same);
+      sound = sound program is;
+    }

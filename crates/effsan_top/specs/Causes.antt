@@ -9,11 +9,11 @@ use Rattle.plain_meaning.specs.Acts.{Ends}
 use Rattle.plain_meaning.specs.Run.{Run, worker}
 use Rattle.effsan_top.specs.Streams.{max_text}
 use Rattle.effsan_top.specs.Words.{Words, entry_of}
-use Rattle.effsan_top.specs.Programs.{IsProgram, HasNoProgram}
+use Rattle.effsan_top.specs.Programs.{IsProgram}
 use Rattle.effsan_top.specs.Statuses.{IsAnswered, IsOrFault, run_status}
-use Rattle.effsan_top.specs.Lines.{Refusal, Words as Unbuilt, ReadFault, TooLarge, Unreadable, NotYet, NotFound, OutOfMemory, WriteFault}
+use Rattle.effsan_top.specs.Lines.{Refusal, Words as Unbuilt, ReadFault, TooLarge, Faulty, NotFound, OutOfMemory, WriteFault}
 use Rattle.effsan_top.specs.declared.faults.TextFault.{TextFault}
-use Rattle.effsan_top.specs.Faults.{IsUnreadable, IsReadable}
+use Rattle.effsan_top.specs.Faults.{IsAtFault}
 
 -- how many turns a worker may take
 abbrev pub max_turns : ℕ
@@ -33,19 +33,13 @@ pub record Accepts (name text : List ℕ) (program : Program) (entry : ℕ) : Ty
   pub read : IsProgram text program
   pub named : IsEntry program name entry
 
--- The text cannot be read, for this fault on this line.
-pub record IsUnread (text : List ℕ) (f : TextFault) (line : ℕ) : Type 0 where
+-- The text has no program, for this fault on this line.
+pub record IsFaulty (text : List ℕ) (f : TextFault) (line : ℕ) : Type 0 where
   pub fits : length text ≤ max_text
-  pub unreadable : IsUnreadable text f line
+  pub fault : IsAtFault text f line
 
 abbrev pub HasFault : List ℕ → Type 0
-HasFault text = (f : TextFault) × (line : ℕ) × IsUnread text f line
-
--- The text can be read, and is outside the language.
-pub record IsOutside (text : List ℕ) : Type 0 where
-  pub fits : length text ≤ max_text
-  pub readable : IsReadable text
-  pub unread : HasNoProgram text
+HasFault text = (f : TextFault) × (line : ℕ) × IsFaulty text f line
 
 -- The text has a program, without a function of the name.
 pub record LacksEntry (name text : List ℕ) : Type 0 where
@@ -55,7 +49,7 @@ pub record LacksEntry (name text : List ℕ) : Type 0 where
   pub missing : HasNone program name
 
 abbrev pub IsRefused : List ℕ → List ℕ → Type 0
-IsRefused name text = HasFault text ⊎ (IsOutside text ⊎ LacksEntry name text)
+IsRefused name text = HasFault text ⊎ LacksEntry name text
 
 -- The entry asks the heap for nothing, and ends so.
 pub record EndsAlone (name text : List ℕ) (ending : Ending) : Type 0 where
@@ -92,8 +86,7 @@ abbrev pub HasCause : Words → Option (List ℕ) → Type 0 → Type 0 → Refu
 HasCause words left read written Unbuilt = entry_of words ≡ None
 HasCause words left read written ReadFault = read
 HasCause words left read written TooLarge = IfSome left IsTooLarge
-HasCause words left read written (Unreadable f line) = IfSome left (λ text. IsUnread text f line)
-HasCause words left read written NotYet = IfSome left IsOutside
+HasCause words left read written (Faulty f line) = IfSome left (λ text. IsFaulty text f line)
 HasCause words left read written (NotFound name) = (entry_of words ≡ Some name) × IfSome left (LacksEntry name)
 HasCause words left read written OutOfMemory = Unit {0}
 HasCause words left read written WriteFault = written

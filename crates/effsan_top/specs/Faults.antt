@@ -1,11 +1,14 @@
--- Why a text cannot be read, and on which line: it has no tokens, or a directive or macro of it is at fault.
-use Rattle.std.specs.Prelude.{ℕ, ◌+◌, ◌==◌, Bool, List, length, filter, take, codes}
+-- Why a text has no program, and on which line.
+use Rattle.std.specs.Prelude.{ℕ, ◌+◌, ◌==◌, Bool, List, length, filter, take, codes, Contains}
 use Rattle.c_tokens.specs.declared.token.Token.{Token}
 use Rattle.c_lexer.specs.declared.error.LexError.TheVariants as lex
 use Rattle.c_lexer.specs.Lexes.{Tokens, IsRefused}
 use Rattle.c_pp.specs.declared.error.PpError.TheVariants as pp
 use Rattle.c_pp.specs.Expands.{Expands}
 use Rattle.c_pp.specs.Expands.{IsRefused as IsStopped}
+use Rattle.c_grammar.specs.declared.units.Unit.{Unit as Tree}
+use Rattle.c_grammar.specs.Units.{Derives}
+use Rattle.program_form.specs.Programs.{IsOutside}
 use Rattle.effsan_top.specs.declared.faults.TextFault.{TextFault}
 use Rattle.effsan_top.specs.declared.faults.TextFault.TheVariants as fault
 
@@ -19,6 +22,8 @@ fault_name fault.TooManyTokens = codes "TooManyTokens"
 fault_name fault.UnknownHeader = codes "UnknownHeader"
 fault_name fault.BadDirective = codes "BadDirective"
 fault_name fault.MacroLoop = codes "MacroLoop"
+fault_name fault.Syntax = codes "Syntax"
+fault_name fault.NotYet = codes "NotYet"
 
 abbrev pub is_line_end : ℕ → Bool
 is_line_end b = b == 10
@@ -51,5 +56,13 @@ pub record Reads (text : List ℕ) (expanded : List Token) : Type 0 where
   pub lexed : Tokens text tokens
   pub is : Expands text tokens expanded
 
-abbrev pub IsReadable : List ℕ → Type 0
-IsReadable text = (expanded : List Token) × Reads text expanded
+-- The text has no program: this is the first fault in it, on this line. One for which it cannot be read comes before one of its
+-- syntax, and that before what is not built yet.
+pub data IsAtFault (text : List ℕ) : TextFault → ℕ → Type 0 where
+  unreadable : {f : TextFault} {line : ℕ} → IsUnreadable text f line → IsAtFault text f line
+  -- its tokens derive no unit; the line is that of one of them
+  syntax : {tokens : List Token} {token : Token} → Reads text tokens → Contains tokens token →
+      ((unit : Tree) → Derives text tokens unit → ⊥) → IsAtFault text fault.Syntax token.line
+  -- its unit is outside the form that runs; on the line begins the first declaration or function that is
+  not_yet : {tokens : List Token} {unit : Tree} {line : ℕ} → Reads text tokens → Derives text tokens unit →
+      IsOutside text tokens unit line → IsAtFault text fault.NotYet line

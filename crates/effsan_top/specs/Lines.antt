@@ -26,10 +26,8 @@ pub data Refusal : Type 0 where
   Words : Refusal
   ReadFault : Refusal
   TooLarge : Refusal
-  -- the text cannot be read, for this fault on this line
-  Unreadable : TextFault → ℕ → Refusal
-  -- the text is outside the language
-  NotYet : Refusal
+  -- the text has no program, for this fault on this line
+  Faulty : TextFault → ℕ → Refusal
   -- no function has this name
   NotFound : List ℕ → Refusal
   OutOfMemory : Refusal
@@ -39,8 +37,7 @@ abbrev pub status_of : Refusal → ℕ
 status_of Words = 2
 status_of ReadFault = 4
 status_of TooLarge = 7
-status_of (Unreadable f line) = 3
-status_of NotYet = 3
+status_of (Faulty f line) = 3
 status_of (NotFound name) = 3
 status_of OutOfMemory = 6
 status_of WriteFault = 5
@@ -52,8 +49,7 @@ abbrev pub line_of : Refusal → List ℕ
 line_of Words = codes "effsan: words: NotYet\n"
 line_of ReadFault = codes "effsan: read fault\n"
 line_of TooLarge = codes "effsan: source too large\n"
-line_of (Unreadable f line) = fault_line f line
-line_of NotYet = codes "effsan: NotYet\n"
+line_of (Faulty f line) = fault_line f line
 line_of (NotFound name) = codes "effsan: entry NotFound " ++ name ++ codes "\n"
 line_of OutOfMemory = codes "effsan: out of memory\n"
 line_of WriteFault = codes "effsan: write fault\n"

@@ -7,8 +7,7 @@ abbrev pub seen : Refusal → line.Refusal
 seen r.Words = line.Words
 seen r.ReadFault = line.ReadFault
 seen r.TooLarge = line.TooLarge
-seen (r.Unreadable f l) = line.Unreadable f l
-seen r.NotYet = line.NotYet
+seen (r.Faulty f l) = line.Faulty f l
 seen (r.NotFound name) = line.NotFound name.now
 seen r.OutOfMemory = line.OutOfMemory
 seen r.WriteFault = line.WriteFault

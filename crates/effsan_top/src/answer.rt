@@ -10,7 +10,7 @@ ghost use Rattle.effsan_top.specs.Answers.{RunsText, RunsFor, HasTextCause, HasN
 ghost use Rattle.effsan_top.specs.Refusals.{seen};
 
 use crate::lines::printed;
-use crate::program::program_of;
+use crate::program::text_program;
 use crate::refusal::Refusal;
 use crate::source::Source;
 use crate::transfer::read_all;
@@ -37,7 +37,7 @@ fn answer_text<'a>(alloc: Global, name: &'a [u8], text: &[u8]) -> Result<Answer,
     ensures text { IfOk result (λ answer. answer.text ≡ spec.printed answer.run) }
     ensures refused { IfErr result (λ refusal. HasTextCause name.now text.now (seen refusal)) }
 {
-    let program = program_of(alloc, text)?;
+    let program = text_program(alloc, text)?;
     let Ok(entry) = find_entry(&program, name) else {
         return Err(Refusal::NotFound(name));
     };

@@ -1,10 +1,11 @@
-//! Why a text cannot be read, and on which line.
+//! Why a text has no program, and on which line.
 
 ghost use Rattle.std.specs.Prelude.{◌≡◌, ◌≤◌, length, filter};
 ghost use Rattle.effsan_top.specs.Faults as spec;
 
-/// Why a text cannot be read: it has no tokens, or else a directive or a macro is at fault. Of two reasons of one kind the
-/// first in the text is told, and of two at one place the one that stands first here.
+/// Why a text has no program: it has no tokens, or else a directive or a macro is at fault, or else its syntax, or else it is
+/// outside the form that runs. Of two reasons of one kind the first in the text is told, and of two at one place the one that
+/// stands first here.
 #[derive(Clone, Copy, Debug, PartialEq, Eq)]
 pub enum TextFault {
     /// A byte that begins no token.
@@ -25,6 +26,10 @@ pub enum TextFault {
     BadDirective,
     /// A macro whose replacement leads back to itself.
     MacroLoop,
+    /// What is left is no unit of C's grammar.
+    Syntax,
+    /// A declaration or a function that does not run yet.
+    NotYet,
 }
 
 impl TextFault {
@@ -42,6 +47,8 @@ impl TextFault {
             TextFault::UnknownHeader => b"UnknownHeader",
             TextFault::BadDirective => b"BadDirective",
             TextFault::MacroLoop => b"MacroLoop",
+            TextFault::Syntax => b"Syntax",
+            TextFault::NotYet => b"NotYet",
         }
     }
 }

@@ -1,25 +1,27 @@
 //! From a source text to its program.
 
-ghost use Rattle.std.specs.Prelude.{◌≡◌, ◌≤◌, length, IfOk, IfErr};
-ghost use Rattle.std.specs.List.{list_any};
+ghost use Rattle.std.specs.Prelude.{◌≡◌, ◌<◌, ◌≤◌, length, Contains, IfOk, IfErr};
 ghost use Rattle.effsan_top.specs.Errors.{of_lexer};
-ghost use Rattle.effsan_top.specs.Programs as spec;
-ghost use Rattle.effsan_top.specs.Answers.{IsOnlyProgram, HasProgramCause};
+ghost use Rattle.c_tokens.specs.declared.token.Token.{Token as Piece};
+ghost use Rattle.c_grammar.specs.declared.units.Unit.{Unit as Tree};
+ghost use Rattle.c_grammar.specs.Units.{Derives};
+ghost use Rattle.effsan_top.specs.Answers.{IsReading, IsOnlyProgram, HasUnitCause, HasProgramCause};
 
 use crate::faults::{TextFault, line_at};
-use c_lexer::{Kind, LexError, Token, lex};
+use c_grammar::Unit;
+use c_lexer::{LexError, Token, law_strings, lex};
 use c_parser::{ParseError, parse};
-use c_pp::{PpError, expand};
-use plain_meaning::{Program, typed};
+use c_pp::{PpError, expand, law_expanded};
+use grammar_descent::law_derivation;
+use plain_meaning::Program;
+use program_form::{FormError, law_form, program_of};
 use std::alloc::{AllocError, Global};
 
-/// Why a text has no program: want of memory, a fault for which it cannot be read, with its line, or it is outside the
-/// language as far as that is built.
+/// Why a text has no program: want of memory, or the first fault in it, with its line.
 #[derive(Debug, Drop)]
 pub enum ProgramError {
     Memory,
-    Unreadable(TextFault, usize),
-    NotYet,
+    Faulty(TextFault, usize),
 }
 
 /// Why the lexer refused a text.
@@ -28,21 +30,19 @@ fn unreadable(text: &[u8], error: LexError) -> ProgramError
 {
     match error {
         LexError::Memory(_) => ProgramError::Memory,
-        LexError::BadByte(at) => ProgramError::Unreadable(TextFault::BadByte, line_at(text, at)),
+        LexError::BadByte(at) => ProgramError::Faulty(TextFault::BadByte, line_at(text, at)),
         LexError::OpenComment(at) => {
-            ProgramError::Unreadable(TextFault::OpenComment, line_at(text, at))
+            ProgramError::Faulty(TextFault::OpenComment, line_at(text, at))
         }
         LexError::OpenString(at) => {
-            ProgramError::Unreadable(TextFault::OpenString, line_at(text, at))
+            ProgramError::Faulty(TextFault::OpenString, line_at(text, at))
         }
         LexError::NumberTooLarge(at) => {
-            ProgramError::Unreadable(TextFault::NumberTooLarge, line_at(text, at))
+            ProgramError::Faulty(TextFault::NumberTooLarge, line_at(text, at))
         }
-        LexError::BadEscape(at) => {
-            ProgramError::Unreadable(TextFault::BadEscape, line_at(text, at))
-        }
+        LexError::BadEscape(at) => { ProgramError::Faulty(TextFault::BadEscape, line_at(text, at)) }
         LexError::TooManyTokens(at) => {
-            ProgramError::Unreadable(TextFault::TooManyTokens, line_at(text, at))
+            ProgramError::Faulty(TextFault::TooManyTokens, line_at(text, at))
         }
     }
 }
@@ -56,30 +56,30 @@ impl From<PpError> for ProgramError {
         match error {
             PpError::Memory(_) => ProgramError::Memory,
             PpError::UnknownHeader(line) => {
-                ProgramError::Unreadable(TextFault::UnknownHeader, line as usize)
+                ProgramError::Faulty(TextFault::UnknownHeader, line as usize)
             }
             PpError::BadDirective(line) => {
-                ProgramError::Unreadable(TextFault::BadDirective, line as usize)
+                ProgramError::Faulty(TextFault::BadDirective, line as usize)
             }
             PpError::MacroLoop(line) => {
-                ProgramError::Unreadable(TextFault::MacroLoop, line as usize)
+                ProgramError::Faulty(TextFault::MacroLoop, line as usize)
             }
             PpError::TooManyTokens(line) => {
-                ProgramError::Unreadable(TextFault::TooManyTokens, line as usize)
+                ProgramError::Faulty(TextFault::TooManyTokens, line as usize)
             }
         }
     }
 }
 
-impl From<ParseError> for ProgramError {
-    ghost use Rattle.effsan_top.specs.Errors.{of_parser};
+impl From<FormError> for ProgramError {
+    ghost use Rattle.effsan_top.specs.Errors.{of_form};
 
-    ghost from_gives = { λ p e. e ≡ of_parser p };
+    ghost from_gives = { λ p e. e ≡ of_form p };
 
-    fn from(error: ParseError) -> ProgramError {
+    fn from(error: FormError) -> ProgramError {
         match error {
-            ParseError::Memory(_) => ProgramError::Memory,
-            ParseError::NotYet => ProgramError::NotYet,
+            FormError::Memory(_) => ProgramError::Memory,
+            FormError::NotYet(line) => ProgramError::Faulty(TextFault::NotYet, line as usize),
         }
     }
 }
@@ -94,59 +94,59 @@ impl From<AllocError> for ProgramError {
     }
 }
 
-/// Whether a token, where it is a name, is spelled in one piece, so that its bytes are those of the text. (A line that is
-/// joined inside a name is no part of it, C11 5.1.1.2.)
-fn is_in_one_piece(text: &[u8], token: &Token) -> bool
-    ensures { result ≡ spec.is_in_one_piece text.now token.now }
-{
-    match token.kind {
-        Kind::Name => {
-            let end = text.len().min(token.end as usize);
-            let start = end.min(token.start as usize);
-            !has_backslash(&text[start..end])
-        }
-        Kind::Word(_) | Kind::Number(..) | Kind::Char(_) | Kind::Str | Kind::Mark(_) => true,
-    }
-}
-
-fn has_backslash(name: &[u8]) -> bool
-    ensures { result ≡ list_any spec.is_backslash name.now }
-{
-    for byte in name {
-        if *byte == b'\\' {
-            return true;
-        }
-    }
-    false
-}
-
-fn names_in_one_piece(text: &[u8], tokens: &[Token]) -> bool
-    ensures { result ≡ spec.names_in_one_piece text.now tokens.now }
-{
-    for token in tokens {
-        if !is_in_one_piece(text, token) {
-            return false;
-        }
-    }
-    true
-}
-
-/// The program of a text: its tokens, those that stand for them when macros are replaced, the unit that these derive, and
-/// the typed tree of that.
-pub fn program_of(alloc: Global, text: &[u8]) -> Result<Program, ProgramError>
+/// What the text becomes: its tokens, and those that stand for them when directives are obeyed and macros replaced.
+fn read(alloc: Global, text: &[u8]) -> Result<Vec<Token>, ProgramError>
     requires { length text.now ≤ 1048576 }
-    ensures found { IfOk result (λ program. IsOnlyProgram text.now program) }
-    ensures small { IfOk result (λ program. length program.functions ≤ 20000000) }
+    ensures found { IfOk result (λ tokens. IsReading text.now tokens.items) }
     ensures refused { IfErr result (λ error. HasProgramCause text.now error) }
 {
     let tokens = match lex(alloc, text) {
         Ok(tokens) => tokens,
         Err(error) => return Err(unreadable(text, error)),
     };
-    let expanded = expand(alloc, text, tokens.as_slice())?;
-    if !names_in_one_piece(text, expanded.as_slice()) {
-        return Err(ProgramError::NotYet);
+    law_strings();
+    law_expanded();
+    Ok(expand(alloc, text, tokens.as_slice())?)
+}
+
+/// The line of a token, or of the last one where there is none of that number.
+fn line_of(tokens: &[Token], at: u32) -> usize
+    ensures { 0 < length tokens.now → (token : Piece) × Contains tokens.now token × (result ≡ token.line) }
+{
+    let last = tokens.len().saturating_sub(1);
+    match tokens.get(last.min(at as usize)) {
+        Some(token) => token.line as usize,
+        None => 0,
     }
-    let unit = parse(alloc, text, expanded.as_slice())?;
-    Ok(typed(alloc, &unit)?)
+}
+
+/// The unit that the tokens derive.
+fn unit_of(alloc: Global, text: &[u8], tokens: &[Token]) -> Result<Unit, ProgramError>
+    requires { length tokens.now ≤ 200000 }
+    ensures found { IfOk result (λ unit. Derives text.now tokens.now unit) }
+    ensures only { (unit : Tree) → Derives text.now tokens.now unit → IfOk result (λ answer. answer ≡ unit) }
+    ensures refused { IfErr result (λ error. HasUnitCause text.now tokens.now error) }
+{
+    match parse(alloc, text, tokens) {
+        Ok(unit) => Ok(unit),
+        Err(ParseError::Memory(_)) => Err(ProgramError::Memory),
+        Err(ParseError::Syntax(at)) => Err(ProgramError::Faulty(
+            TextFault::Syntax,
+            line_of(tokens, at),
+        )),
+    }
+}
+
+/// The program of a text: what it becomes derives a unit, which is of the form that runs.
+pub fn text_program(alloc: Global, text: &[u8]) -> Result<Program, ProgramError>
+    requires { length text.now ≤ 1048576 }
+    ensures found { IfOk result (λ program. IsOnlyProgram text.now program) }
+    ensures small { IfOk result (λ program. length program.functions ≤ 20000000) }
+    ensures refused { IfErr result (λ error. HasProgramCause text.now error) }
+{
+    let tokens = read(alloc, text)?;
+    let unit = unit_of(alloc, text, tokens.as_slice())?;
+    law_derivation();
+    law_form();
+    Ok(program_of(alloc, text, tokens.as_slice(), &unit)?)
 }

@@ -21,8 +21,7 @@ pub enum Refusal<'a> {
     Words,
     ReadFault,
     TooLarge,
-    Unreadable(TextFault, usize),
-    NotYet,
+    Faulty(TextFault, usize),
     NotFound(&'a [u8]),
     OutOfMemory,
     WriteFault,
@@ -44,8 +43,7 @@ impl From<ProgramError> for Refusal<'_> {
     fn from(error: ProgramError) -> Self {
         match error {
             ProgramError::Memory => Refusal::OutOfMemory,
-            ProgramError::Unreadable(fault, line) => Refusal::Unreadable(fault, line),
-            ProgramError::NotYet => Refusal::NotYet,
+            ProgramError::Faulty(fault, line) => Refusal::Faulty(fault, line),
         }
     }
 }
@@ -73,7 +71,7 @@ impl Refusal<'_> {
     {
         match self {
             Refusal::Words => 2,
-            Refusal::Unreadable(..) | Refusal::NotYet | Refusal::NotFound(_) => 3,
+            Refusal::Faulty(..) | Refusal::NotFound(_) => 3,
             Refusal::ReadFault => 4,
             Refusal::WriteFault => 5,
             Refusal::OutOfMemory => 6,
@@ -91,8 +89,7 @@ impl Refusal<'_> {
             Refusal::Words => write_all(err, b"effsan: words: NotYet\n"),
             Refusal::ReadFault => write_all(err, b"effsan: read fault\n"),
             Refusal::TooLarge => write_all(err, b"effsan: source too large\n"),
-            Refusal::Unreadable(fault, line) => write_unreadable(err, fault, line),
-            Refusal::NotYet => write_all(err, b"effsan: NotYet\n"),
+            Refusal::Faulty(fault, line) => write_faulty(err, fault, line),
             Refusal::NotFound(name) => write_missing(err, name),
             Refusal::OutOfMemory => write_all(err, b"effsan: out of memory\n"),
             Refusal::WriteFault => write_all(err, b"effsan: write fault\n"),
@@ -131,7 +128,7 @@ fn write_fault_name<E: Sink>(err: &mut E, fault: TextFault) -> Result<(), Failed
     write_both(err, b": ", fault.name())
 }
 
-fn write_unreadable<E: Sink>(err: &mut E, fault: TextFault, line: usize) -> Result<(), Failed>
+fn write_faulty<E: Sink>(err: &mut E, fault: TextFault, line: usize) -> Result<(), Failed>
     ensures ok { OnOk result (Appends (fault_line fault line) (E.taken err.old) (E.taken err.new)) }
     ensures failed { OnErr result (AppendsSome (fault_line fault line) (E.taken err.old) (E.taken err.new)) }
     ensures cause { OnErr result (Rose (E.faults err.old) (E.faults err.new)) }

@@ -39,7 +39,7 @@ module _ {text : List ℕ} {ts : List Token} where
   function_moves : {scope after : Scope} {from to : ℕ} {f : Function} → IsFunction text ts scope after from to f → from < to
   function_moves (g.function is named body) = let i = specs_move text ts is in let j = declarator_moves text ts named in let l = block_moves body in omega arith
 
-  externals_move : {scope : Scope} {from to : ℕ} {all : List External} → AreExternals text ts scope from to all → from + length all ≤ to
+  pub externals_move : {scope : Scope} {from to : ℕ} {all : List External} → AreExternals text ts scope from to all → from + length all ≤ to
   externals_move g.none = omega arith
   externals_move (g.declaration is rest) = let i = declaration_moves is in let j = externals_move rest in omega arith
   externals_move (g.function is rest) = let i = function_moves is in let j = externals_move rest in omega arith

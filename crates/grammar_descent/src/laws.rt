@@ -1,6 +1,6 @@
 //! What the readers find is what the grammar derives.
 
-ghost use Rattle.std.specs.Prelude.{◌≡◌, ◌↔◌, ℕ, List, Some};
+ghost use Rattle.std.specs.Prelude.{◌≡◌, ◌≤◌, ◌↔◌, ℕ, List, length, Some};
 ghost use Rattle.c_tokens.specs.declared.token.Token.{Token as Word};
 ghost use Rattle.c_grammar.specs.declared.units.Unit.{Unit as Tree};
 ghost use Rattle.c_grammar.specs.declared.phrases.TypeName.{TypeName as NameOfType};
@@ -16,8 +16,9 @@ pub fn law_readers()
     ensures type_name { (text : List ℕ) (tokens : List Word) (typedefs : List Name) (type : NameOfType) → (read_type_name text tokens typedefs ≡ Some type) ↔ DerivesTypeName text tokens typedefs type }
 {}
 
-/// The grammar gives a text one reading at most (C11 6.5 to 6.9).
+/// The grammar gives a text one reading at most (C11 6.5 to 6.9), and each declaration and each function takes a token.
 pub fn law_derivation()
     ensures unit { (text : List ℕ) (tokens : List Word) (a b : Tree) → Derives text tokens a → Derives text tokens b → a ≡ b }
     ensures type_name { (text : List ℕ) (tokens : List Word) (typedefs : List Name) (a b : NameOfType) → DerivesTypeName text tokens typedefs a → DerivesTypeName text tokens typedefs b → a ≡ b }
+    ensures few { (text : List ℕ) (tokens : List Word) (unit : Tree) → Derives text tokens unit → length unit.items ≤ length tokens }
 {}

@@ -1,133 +1,178 @@
-//! Names of types (C11 6.7.7): which tokens are one, and where others stop being one.
+//! Names of types (C11 6.7.7): their trees, where other tokens stop being one, and how deep they nest.
 
-use c_lexer::{MAX_TEXT, lex};
-use c_types::Text;
+use crate::reading::{Row, shown_type_name};
 use std::alloc::{AllocError, Global};
-use std::test::Fail;
-use unit_parser::{ParseError, parse_type_name};
+use std::process::Abort;
 
-/// How the tokens of a text are read as the name of a type, where `T` and `U` are types: `read`, or the number of the token that cannot stand there.
-fn shown(alloc: Global, text: &[u8]) -> Result<String, AllocError> {
-    if text.len() > MAX_TEXT {
-        return format!(in alloc; "too large");
-    }
-    let Ok(tokens) = lex(alloc, text) else {
-        return format!(in alloc; "no tokens");
-    };
-    if tokens.len() > 200_000 {
-        return format!(in alloc; "too many tokens");
-    }
-    let mut first = Text::new(alloc);
-    first.push(b'T')?;
-    let mut second = Text::new(alloc);
-    second.push(b'U')?;
-    let types = [first, second];
-    match parse_type_name(alloc, text, tokens.as_slice(), types.as_slice()) {
-        Ok(_) => format!(in alloc; "read"),
-        Err(ParseError::Syntax(at)) => format!(in alloc; "{at}"),
-        Err(ParseError::Memory(_)) => format!(in alloc; "memory"),
-    }
-}
-
-#[test]
-fn names_of_types_are_read(rt: HostRuntime) -> Result<(), Fail> {
-    let cases: [&str; 39] = [
-        "int",
-        "int*",
-        "void",
-        "const char *",
+static TYPE_NAMES: [Row; 42] = [
+    ("int", "(type [int] -)"),
+    ("void", "(type [void] -)"),
+    ("int*", "(type [int] (* -))"),
+    ("const char *", "(type [const char] (* -))"),
+    ("const char *const", "(type [const char] (* const -))"),
+    (
         "char const *const restrict",
+        "(type [char const] (* const restrict -))",
+    ),
+    (
         "unsigned long long int",
+        "(type [unsigned long long int] -)",
+    ),
+    (
         "long unsigned int long",
-        "signed",
-        "short unsigned",
-        "long long",
-        "signed char",
-        "struct S",
-        "struct T *",
-        "union U",
-        "enum T",
-        "T",
-        "T *",
-        "T const *",
-        "U [3]",
-        "size_t",
-        "uint8_t *[4]",
-        "int (*)[3]",
+        "(type [long unsigned int long] -)",
+    ),
+    ("signed", "(type [signed] -)"),
+    ("short unsigned", "(type [short unsigned] -)"),
+    ("long long", "(type [long long] -)"),
+    ("signed char", "(type [signed char] -)"),
+    ("static inline int", "(type [static inline int] -)"),
+    ("struct S", "(type [(struct S)] -)"),
+    ("struct T *", "(type [(struct T)] (* -))"),
+    ("union U", "(type [(union U)] -)"),
+    ("enum T", "(type [(enum T)] -)"),
+    ("T", "(type [T] -)"),
+    ("T const *", "(type [T const] (* -))"),
+    ("U [3]", "(type [U] (array - 3))"),
+    ("size_t", "(type [size_t] -)"),
+    ("uint8_t *[4]", "(type [uint8_t] (* (array - 4)))"),
+    ("int (*)[3]", "(type [int] (array (paren (* -)) 3))"),
+    (
         "int *(*[2])(void)",
-        "int (*)(void)",
-        "int ()",
-        "int (T)",
+        "(type [int] (* (function (paren (* (array - 2))) [])))",
+    ),
+    ("int (*)(void)", "(type [int] (function (paren (* -)) []))"),
+    (
+        "int (*)(int, T *)",
+        "(type [int] (function (paren (* -)) [([int] -) ([T] (* -))]))",
+    ),
+    ("int ()", "(type [int] (function - []))"),
+    ("int (T)", "(type [int] (function - [([T] -)]))"),
+    (
         "int (*(*)(int x, T))[2]",
-        "int (())",
-        "int ((*))",
+        "(type [int] (array (paren (* (function (paren (* -)) [([int] x) ([T] -)]))) 2))",
+    ),
+    ("int (())", "(type [int] (paren (function - [])))"),
+    ("int ((*))", "(type [int] (paren (paren (* -))))"),
+    (
         "int (T T, int (T))",
+        "(type [int] (function - [([T] T) ([int] (paren T))]))",
+    ),
+    (
         "int [sizeof(T)]",
-        "int [sizeof x]",
+        "(type [int] (array - (sizeof-type (type [T] -))))",
+    ),
+    (
+        "int [sizeof x][]",
+        "(type [int] (array (array - (sizeof x))))",
+    ),
+    (
+        "struct S { int a; } *",
+        "(type [(struct S [(member [int] a)])] (* -))",
+    ),
+    (
         "struct { int a; char b[3], *c; }",
+        "(type [(struct - [(member [int] a) (member [char] (array b 3) (* c))])] -)",
+    ),
+    (
         "struct S { T T; } *",
+        "(type [(struct S [(member [T] T)])] (* -))",
+    ),
+    (
         "union { struct { int a; } b; }",
+        "(type [(union - [(member [(struct - [(member [int] a)])] b)])] -)",
+    ),
+    (
         "enum { A, B = 2, C = A, }",
+        "(type [(enum - [A (= B 2) (= C A)])] -)",
+    ),
+    (
         "enum E { T = 1, U = T }",
-        "static inline int",
+        "(type [(enum E [(= T 1) (= U T)])] -)",
+    ),
+    (
         "const T *(*)(const U, unsigned T)",
-    ];
-    for text in cases {
-        let found = shown(rt.alloc(), text.as_bytes())?;
-        assert_eq!(rt; found.as_str(), "read", "{text}");
+        "(type [const T] (* (function (paren (* -)) [([const U] -) ([unsigned] T)])))",
+    ),
+    (
+        "int (*(*[2])(char *restrict))()",
+        "(type [int] (function (paren (* (function (paren (* (array - 2))) [([char] (* restrict -))]))) []))",
+    ),
+];
+
+/// Tokens that cannot stand there.
+static REFUSED: [Row; 41] = [
+    ("", "token 0"),
+    ("x", "token 0"),
+    ("1", "token 0"),
+    ("float", "token 0"),
+    ("*", "token 0"),
+    ("int x", "token 1"),
+    ("int int", "token 1"),
+    ("short long", "token 1"),
+    ("void void", "token 1"),
+    ("unsigned signed", "token 1"),
+    ("long long long", "token 2"),
+    ("int long char", "token 2"),
+    ("char short", "token 1"),
+    ("unsigned T", "token 1"),
+    ("T T", "token 1"),
+    ("T int", "token 1"),
+    ("int T", "token 1"),
+    ("int struct S", "token 1"),
+    ("const", "token 1"),
+    ("const x", "token 1"),
+    ("struct", "token 1"),
+    ("struct 1", "token 1"),
+    ("struct S { }", "token 3"),
+    ("struct { int; }", "token 3"),
+    ("struct { int a }", "token 4"),
+    ("enum { }", "token 2"),
+    ("enum { 1 }", "token 2"),
+    ("enum { A, B, , }", "token 6"),
+    ("int (x)", "token 2"),
+    ("int (", "token 2"),
+    ("int [", "token 2"),
+    ("int ]", "token 1"),
+    ("int [3", "token 3"),
+    ("int [T]", "token 2"),
+    ("int [3](*)", "token 5"),
+    ("int (int,)", "token 4"),
+    ("int (int, ...)", "token 4"),
+    ("int * inline", "token 2"),
+    ("int *, int", "token 2"),
+    ("int;", "token 1"),
+    ("struct S { int a; } x", "token 7"),
+];
+
+fn check(rt: &impl Abort, alloc: Global, rows: &[Row]) -> Result<(), AllocError> {
+    for (text, wanted) in rows {
+        let found = shown_type_name(alloc, text.as_bytes())?;
+        assert_eq!(rt; found.as_str(), *wanted, "{text}");
     }
     Ok(())
 }
 
 #[test]
-fn other_tokens_are_refused_at_the_first_that_cannot_stand_there(
-    rt: HostRuntime,
-) -> Result<(), Fail> {
-    let cases: [(&str, &str); 37] = [
-        ("", "0"),
-        ("x", "0"),
-        ("1", "0"),
-        ("float", "0"),
-        ("*", "0"),
-        ("int x", "1"),
-        ("int int", "1"),
-        ("short long", "1"),
-        ("void void", "1"),
-        ("unsigned signed", "1"),
-        ("long long long", "2"),
-        ("int long char", "2"),
-        ("char short", "1"),
-        ("unsigned T", "1"),
-        ("T T", "1"),
-        ("T int", "1"),
-        ("int T", "1"),
-        ("int struct S", "1"),
-        ("const", "1"),
-        ("const x", "1"),
-        ("struct", "1"),
-        ("struct 1", "1"),
-        ("struct S { }", "3"),
-        ("struct { int; }", "3"),
-        ("struct { int a }", "4"),
-        ("enum { }", "2"),
-        ("enum { 1 }", "2"),
-        ("enum { A, B, , }", "6"),
-        ("int (x)", "2"),
-        ("int (", "2"),
-        ("int [", "2"),
-        ("int ]", "1"),
-        ("int [3", "3"),
-        ("int [T]", "2"),
-        ("int (int,)", "4"),
-        ("int (int, ...)", "4"),
-        ("int * inline", "2"),
-    ];
-    for (text, wanted) in cases {
-        let found = shown(rt.alloc(), text.as_bytes())?;
-        assert_eq!(rt; found.as_str(), wanted, "{text}");
-    }
-    Ok(())
+fn names_of_types_have_their_trees(rt: HostRuntime) -> Result<(), AllocError> {
+    check(&rt, rt.alloc(), TYPE_NAMES.as_slice())
 }
+
+#[test]
+fn other_tokens_are_no_name_of_a_type(rt: HostRuntime) -> Result<(), AllocError> {
+    check(&rt, rt.alloc(), REFUSED.as_slice())
+}
+
+/// A form of nesting: what opens and closes, what is inside, how often it nests, and the token that is one too many.
+type Nesting = (&'static str, &'static str, &'static str, u32, &'static str);
+
+static NESTINGS: [Nesting; 5] = [
+    ("*", "", "", 200, "token 201"),
+    ("(", "*", ")", 199, "token 201"),
+    ("", "", "[]", 200, "token 401"),
+    ("", "", "[1]", 199, "token 598"),
+    ("", "", "()", 200, "token 401"),
+];
 
 /// `int`, and a piece many times between two others.
 fn nested(
@@ -150,21 +195,13 @@ fn nested(
 }
 
 #[test]
-fn names_of_types_nest_two_hundred_deep(rt: HostRuntime) -> Result<(), Fail> {
-    // of each: what opens and closes, what is inside, how often it nests, and the token that is one too many
-    let cases: [(&str, &str, &str, u32, &str); 5] = [
-        ("*", "", "", 200, "201"),
-        ("(", "*", ")", 199, "201"),
-        ("", "", "[]", 200, "401"),
-        ("", "", "[1]", 199, "598"),
-        ("", "", "()", 200, "401"),
-    ];
-    for (open, middle, close, deepest, wanted) in cases {
+fn names_of_types_nest_two_hundred_deep(rt: HostRuntime) -> Result<(), AllocError> {
+    for (open, middle, close, deepest, wanted) in NESTINGS {
         let text = nested(rt.alloc(), open, middle, close, deepest)?;
-        let found = shown(rt.alloc(), text.as_bytes())?;
-        assert_eq!(rt; found.as_str(), "read", "{open}{close}");
+        let found = shown_type_name(rt.alloc(), text.as_bytes())?;
+        assert!(rt; found.as_str().starts_with("(type "), "{open}{close}");
         let text = nested(rt.alloc(), open, middle, close, deepest + 1)?;
-        let found = shown(rt.alloc(), text.as_bytes())?;
+        let found = shown_type_name(rt.alloc(), text.as_bytes())?;
         assert_eq!(rt; found.as_str(), wanted, "{open}{close}");
     }
     Ok(())

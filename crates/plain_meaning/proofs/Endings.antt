@@ -1,14 +1,13 @@
 -- A point does not end a worker for want of turns.
 use Rattle.std.proofs.Common.{ℕ, Bool, true, false, cond}
 use Rattle.heap_model.specs.Reaches.{may_escape}
-use Rattle.heap_model.specs.declared.calls.Call.{Call}
 use Rattle.heap_model.specs.declared.calls.Reply.{Reply}
 use Rattle.heap_model.specs.declared.calls.Reply.TheVariants as reply
 use Rattle.plain_meaning.specs.declared.record.Ending.TheVariants.{Spent}
 use Rattle.plain_meaning.specs.declared.scalar.Scalar.{Scalar}
 use Rattle.plain_meaning.specs.declared.scalar.CheckedPointer.{CheckedPointer}
 use Rattle.plain_meaning.specs.Tree.{Place, Null, IsNull, Allocate, Free, Load, Store, Pass, Convert, Move}
-use Rattle.plain_meaning.specs.Points.{Next, Go, Halt, Answer, Now, Ask, Kept, Asking, pointer_of, is_null, unless_escape, checked_for, checked, checked_told}
+use Rattle.plain_meaning.specs.Points.{Next, Go, Halt, Now, Ask, Kept, Asking, pointer_of, is_null, checked, checked_told}
 
 abbrev pub IsUnspent : Next CheckedPointer Kept → Type 0
 IsUnspent (Go v note) = Unit {0}

@@ -1,11 +1,10 @@
 -- The equations of the meaning, one for each variant.
-use Rattle.std.proofs.Common.{◌≡◌, ℕ, ℤ, pos, cond, List, [], ◌∷◌, ◌++◌, length, take, map, sym, ap, ◌∙◌}
+use Rattle.std.proofs.Common.{◌≡◌, ℕ, ℤ, cond, List, [], ◌∷◌, ◌++◌, length, take, map, sym, ap, ◌∙◌}
 use Rattle.std.specs.Prelude.{slice_set}
 use Rattle.std.specs.Int.{w32}
-use Rattle.c_parser.specs.declared.tree.Operator.{Operator}
-use Rattle.c_parser.specs.declared.tree.Target.{Target}
-use Rattle.c_parser.specs.declared.tree.Pointer.{Pointer as Named}
-use Rattle.plain_meaning.specs.declared.scalar.Scalar.{Scalar}
+use Rattle.plain_meaning.specs.declared.tree.Operator.{Operator}
+use Rattle.plain_meaning.specs.declared.tree.Target.{Target}
+use Rattle.plain_meaning.specs.declared.tree.Pointer.{Pointer as Named}
 use Rattle.plain_meaning.specs.declared.scalar.Scalar.TheVariants.{Number}
 use Rattle.plain_meaning.specs.declared.tree.Expression.{Expression, fold-roll-Expression}
 use Rattle.plain_meaning.specs.declared.tree.Expression.TheOpen as layer

@@ -1,5 +1,5 @@
 -- The laws of how far a worker comes.
-use Rattle.std.proofs.Common.{◌≡◌, ℕ, zero, suc, ◌<◌, ◌≤◌, List, [], ◌∷◌, ◌++◌, Option, Some, None, length, refl, sym, ap, ◌∙◌, subst, ⊎_elim, arith, append_assoc, append-nil}
+use Rattle.std.proofs.Common.{◌≡◌, ℕ, zero, suc, ◌<◌, ◌≤◌, List, [], ◌∷◌, ◌++◌, Option, Some, None, length, refl, sym, ap, ◌∙◌, subst, ⊎_elim, arith, append_assoc}
 use Rattle.std.specs.Prelude.{slice_get}
 use Rattle.std.proofs.lemmas.Option.{slice_get_cases}
 use Rattle.heap_model.specs.declared.calls.Call.{Call}
@@ -10,9 +10,9 @@ use Rattle.plain_meaning.specs.declared.scalar.Scalar.{Scalar}
 use Rattle.plain_meaning.specs.declared.scalar.CheckedPointer.{CheckedPointer}
 use Rattle.plain_meaning.specs.declared.tree.Function.{Function}
 use Rattle.plain_meaning.specs.declared.tree.Program.{Program}
-use Rattle.plain_meaning.specs.Tree.{Place, Return, Stop, Lost, Print, Turn, Point}
-use Rattle.plain_meaning.specs.Points.{Mode, Checked, Next, Go, Halt, Answer, Now, Ask, PointerIn, Note, CallIn, ReplyIn, Kept as Nothing, checked, checked_told}
-use Rattle.plain_meaning.specs.Acts.{Acts, Over, Unknown, Says, Took, Asks, goes, resolve, acts, End, Waits, Ends, Unseen, Progress, said, took, asked, feed, IsSeen, Extends}
+use Rattle.plain_meaning.specs.Tree.{Return, Stop, Lost, Print, Turn, Point}
+use Rattle.plain_meaning.specs.Points.{Checked, Next, Go, Halt, Answer, Now, Ask, Kept as Nothing, checked, checked_told}
+use Rattle.plain_meaning.specs.Acts.{Acts, Over, Unknown, Says, Took, Asks, goes, resolve, Ends, Progress, said, took, asked, feed, IsSeen, Extends}
 use Rattle.plain_meaning.specs.Meaning.{body_of, call}
 use Rattle.plain_meaning.specs.Run.{checked_acts, worker}
 use Rattle.plain_meaning.proofs.Relations.{Events, Kept, body_alike}

@@ -1,10 +1,9 @@
 -- What holds of each event of a meaning holds of a statement: for relations of two trees that are followed with the same turns.
-use Rattle.std.proofs.Common.{◌≡◌, ℕ, zero, suc, ℤ, ◌≤◌, Bool, true, false, cond, List, [], ◌∷◌, map, Some, sym, ◌∙◌, subst, arith}
+use Rattle.std.proofs.Common.{◌≡◌, ℕ, zero, suc, ◌≤◌, Bool, true, false, cond, List, [], ◌∷◌, map, Some, sym, subst, arith}
 use Rattle.std.specs.Prelude.{slice_index_or, nat_le}
-use Rattle.std.specs.Int.{w32}
-use Rattle.c_parser.specs.declared.tree.Target.{Target}
-use Rattle.c_parser.specs.declared.tree.Target.TheVariants.{Int, Char}
-use Rattle.c_parser.specs.declared.tree.Pointer.{Pointer as Named}
+use Rattle.plain_meaning.specs.declared.tree.Target.{Target}
+use Rattle.plain_meaning.specs.declared.tree.Target.TheVariants.{Int, Char}
+use Rattle.plain_meaning.specs.declared.tree.Pointer.{Pointer as Named}
 use Rattle.plain_meaning.specs.declared.scalar.Scalar.{Scalar}
 use Rattle.plain_meaning.specs.declared.scalar.Scalar.TheVariants.{Number, Pointer}
 use Rattle.plain_meaning.specs.declared.tree.Expression.{Expression, ind-Expression, map-Expression}
@@ -18,7 +17,7 @@ use Rattle.plain_meaning.specs.declared.tree.Statement.TheViews.{roll-Statement}
 use Rattle.plain_meaning.specs.declared.tree.Function.{Function}
 use Rattle.plain_meaning.specs.Tree.{Place, Null, IsNull, Allocate, Free, Load, Store, Pass, Convert, Move, Tree, Return, Print, Turn, Point}
 use Rattle.plain_meaning.specs.Points.{number_of}
-use Rattle.plain_meaning.specs.Values.{Variables, zero_of, value_of, is_true, operate, converted, type_of, size_of, width_of, kind_of, largest}
+use Rattle.plain_meaning.specs.Values.{Variables, zero_of, is_true, type_of, size_of, kind_of, largest}
 use Rattle.plain_meaning.specs.Meaning.{Gives, Does, pointer_in, pointer, heap_call, allocated, cast, freed, element, expression, in_order, repeated, number_line, statement, body_of}
 use Rattle.plain_meaning.proofs.Equations as equation
 

@@ -17,7 +17,7 @@ use Rattle.plain_meaning.specs.declared.tree.Function.{Function}
 use Rattle.plain_meaning.specs.declared.tree.Program.{Program}
 use Rattle.plain_meaning.specs.Tree.{Place, Null, IsNull, Allocate, Free, Load, Store, Pass, Convert, Move}
 use Rattle.plain_meaning.specs.Points.{Checked, Next, Go, Halt, Answer, Now, Ask, Kept as Nothing, Asking, pointer_of, is_null, report_on, want_at, reach_at, checked, checked_told}
-use Rattle.plain_meaning.specs.Acts.{Acts, goes, resolve, Ends, Progress, asked, feed}
+use Rattle.plain_meaning.specs.Acts.{Acts, goes, resolve, Ends, Progress, feed}
 use Rattle.plain_meaning.specs.Meaning.{body_of}
 use Rattle.plain_meaning.specs.Run.{checked_acts, worker}
 use Rattle.plain_meaning.proofs.Relations.{Events, Kept, IsOfForm, body_alike}

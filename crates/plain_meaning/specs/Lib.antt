@@ -1,4 +1,3 @@
-pub mod Typed
 pub mod Tree
 pub mod Points
 pub mod Acts

@@ -3,8 +3,8 @@
 use Rattle.std.specs.Prelude.{ℕ, zero, suc, ℤ, pos, List, [], ◌∷◌, ◌++◌, length, take, slice_set, slice_get, slice_index_or, Option, Some, None, cond, codes, nat_le}
 use Rattle.std.specs.Int.{w32}
 use Rattle.std.specs.Fmt.{signed_decimal}
-use Rattle.c_parser.specs.declared.tree.Target.{Target}
-use Rattle.c_parser.specs.declared.tree.Pointer.{Pointer as Named}
+use Rattle.plain_meaning.specs.declared.tree.Target.{Target}
+use Rattle.plain_meaning.specs.declared.tree.Pointer.{Pointer as Named}
 use Rattle.plain_meaning.specs.declared.scalar.Scalar.{Scalar}
 use Rattle.plain_meaning.specs.declared.scalar.Scalar.TheVariants.{Number, Pointer}
 use Rattle.plain_meaning.specs.declared.tree.Expression.{Expression, fold-Expression}

@@ -5,10 +5,10 @@ use Rattle.std.specs.Ordering.{int_eq}
 use mir.Val.{bits}
 use Rattle.heap_model.specs.declared.calls.AccessKind.{AccessKind}
 use Rattle.heap_model.specs.declared.calls.AccessKind.TheVariants.{I8, I32}
-use Rattle.c_parser.specs.declared.tree.Operator.{Operator}
-use Rattle.c_parser.specs.declared.tree.Operator.TheVariants.{Multiply, Add, Subtract, Less, LessEqual, Equal}
-use Rattle.c_parser.specs.declared.tree.Target.{Target}
-use Rattle.c_parser.specs.declared.tree.Target.TheVariants.{Int, Char}
+use Rattle.plain_meaning.specs.declared.tree.Operator.{Operator}
+use Rattle.plain_meaning.specs.declared.tree.Operator.TheVariants.{Multiply, Add, Subtract, Less, LessEqual, Equal}
+use Rattle.plain_meaning.specs.declared.tree.Target.{Target}
+use Rattle.plain_meaning.specs.declared.tree.Target.TheVariants.{Int, Char}
 use Rattle.plain_meaning.specs.declared.scalar.Scalar.{Scalar}
 use Rattle.plain_meaning.specs.declared.scalar.Scalar.TheVariants.{Number}
 use Rattle.plain_meaning.specs.Points.{number_of}

@@ -6,12 +6,10 @@ mod names;
 mod record;
 mod scalar;
 mod tree;
-mod typing;
 
-pub use c_parser::{Operator, Pointer, Target, Text};
+pub use c_types::Text;
 pub use laws::{law_ended, law_prefix, law_spent, law_turns_looked_at, law_wants};
 pub use names::{NameError, find_entry};
 pub use record::{Ending, Record, Report, Setting};
 pub use scalar::{CheckedPointer, Scalar};
-pub use tree::{Expression, Function, Program, Statement};
-pub use typing::typed;
+pub use tree::{Expression, Function, Operator, Pointer, Program, Statement, Target};

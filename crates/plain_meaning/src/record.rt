@@ -1,7 +1,6 @@
 //! The record of a run.
 
-use c_parser::Text;
-use c_types::TypeNo;
+use c_types::{Text, TypeNo};
 use heap_model::{History, Reach, ReportKind};
 use sqlite_items::Items;
 

@@ -1,12 +1,38 @@
 //! The typed tree of a program of numbers and pointers.
 
-use c_parser::{Operator, Pointer, Target, Text};
+use c_types::Text;
 use sqlite_items::{Boxed, Items};
+
+/// The operators on whole numbers (C11 6.5.5, 6.5.6, 6.5.8, 6.5.9).
+#[derive(Clone, Copy, Debug, PartialEq, Eq)]
+pub enum Operator {
+    Multiply,
+    Add,
+    Subtract,
+    Less,
+    LessEqual,
+    Equal,
+}
+
+/// What a pointer points to.
+#[derive(Clone, Copy, Debug, PartialEq, Eq)]
+pub enum Target {
+    Int,
+    Char,
+}
+
+/// A variable of pointer type: its number among the variables in scope, the outermost first, and what it
+/// points to.
+#[derive(Clone, Copy, Debug, PartialEq, Eq)]
+pub struct Pointer {
+    pub variable: usize,
+    pub target: Target,
+}
 
 /// An expression of type `int`. A variable has its place among the variables in scope, the outermost first.
 #[derive(Debug, Drop)]
 pub enum Expression {
-    Variable(u32),
+    Variable(usize),
     Number(i32),
     Binary(Operator, Boxed<Expression>, Boxed<Expression>),
     /// The element of a pointer at an index.
@@ -22,7 +48,7 @@ pub enum Statement {
     Allocation(u32, Target, u32),
     /// A pointer to a target, converted from another.
     PointerDeclaration(u32, Target, Pointer),
-    Assignment(u32, u32, Expression),
+    Assignment(u32, usize, Expression),
     /// The second pointer, converted to the first one's type.
     PointerAssignment(u32, Pointer, Pointer),
     /// The pointer, the index and the value.

@@ -2,8 +2,8 @@
 use Rattle.std.proofs.Common.{◌≡◌, ℕ, [], ◌∷◌, ◌++◌, length, sym, ap, ◌∙◌}
 use Rattle.std.specs.Prelude.{slice_set, slice_index_or}
 use Rattle.std.proofs.Math.Seq.{set-append_seam}
-use Rattle.c_parser.specs.declared.tree.Target.{Target}
-use Rattle.c_parser.specs.declared.tree.Pointer.{Pointer as Named}
+use Rattle.plain_meaning.specs.declared.tree.Target.{Target}
+use Rattle.plain_meaning.specs.declared.tree.Pointer.{Pointer as Named}
 use Rattle.plain_meaning.specs.declared.scalar.Scalar.{Scalar}
 use Rattle.plain_meaning.specs.declared.scalar.Scalar.TheVariants.{Pointer}
 use Rattle.plain_meaning.specs.declared.scalar.CheckedPointer.{CheckedPointer}

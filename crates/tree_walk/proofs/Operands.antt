@@ -2,8 +2,8 @@
 use Rattle.std.proofs.Common.{◌≡◌, ℕ, ℤ, refl, ap, ◌∙◌}
 use Rattle.std.specs.Prelude.{slice_index_or}
 use Rattle.std.specs.Int.{w32}
-use Rattle.c_parser.specs.declared.tree.Operator.{Operator}
-use Rattle.c_parser.specs.declared.tree.Pointer.{Pointer as Named}
+use Rattle.plain_meaning.specs.declared.tree.Operator.{Operator}
+use Rattle.plain_meaning.specs.declared.tree.Pointer.{Pointer as Named}
 use Rattle.plain_meaning.specs.declared.scalar.Scalar.{Scalar}
 use Rattle.plain_meaning.specs.declared.scalar.Scalar.TheVariants.{Number, Pointer}
 use Rattle.plain_meaning.specs.declared.scalar.CheckedPointer.{CheckedPointer}

@@ -8,9 +8,9 @@ use Rattle.heap_model.specs.Reaches.{may_escape, slot_bounds}
 use Rattle.heap_model.specs.Forms.{suits_alloc}
 use Rattle.heap_model.specs.declared.calls.Reply.{Reply}
 use Rattle.heap_model.specs.declared.calls.Reply.TheVariants as reply
-use Rattle.c_parser.specs.declared.tree.Target.TheVariants.{Int, Char}
+use Rattle.plain_meaning.specs.declared.tree.Target.TheVariants.{Int, Char}
 use Rattle.heap_model.specs.declared.calls.Call.TheVariants as call
-use Rattle.c_parser.specs.declared.tree.Target.{Target}
+use Rattle.plain_meaning.specs.declared.tree.Target.{Target}
 use Rattle.plain_meaning.specs.declared.record.Ending.TheVariants.{Reported}
 use Rattle.plain_meaning.specs.declared.scalar.Scalar.{Scalar}
 use Rattle.plain_meaning.specs.declared.scalar.Scalar.TheVariants.{Number, Pointer}

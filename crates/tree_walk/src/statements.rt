@@ -125,12 +125,12 @@ impl Walk {
         Ok(())
     }
 
-    fn assign(&mut self, line: u32, variable: u32, value: &Expression) -> Result<(), Stop>
+    fn assign(&mut self, line: u32, variable: usize, value: &Expression) -> Result<(), Stop>
         ensures walks { Walks self.old (s.Assignment line variable value.now) result self.new }
         ensures fewer { OnOk result (Fewer self.old self.new) }
     {
         let value = self.value(line, value)?;
-        self.set(variable as usize, Scalar::Number(value));
+        self.set(variable, Scalar::Number(value));
         Ok(())
     }
 
@@ -144,7 +144,7 @@ impl Walk {
         ensures fewer { OnOk result (Fewer self.old self.new) }
     {
         let converted = self.cast(line, pointer.target, self.pointer(source.variable))?;
-        self.set(pointer.variable as usize, Scalar::Pointer(converted));
+        self.set(pointer.variable, Scalar::Pointer(converted));
         Ok(())
     }
 

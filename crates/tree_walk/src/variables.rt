@@ -11,20 +11,20 @@ use std::alloc::AllocError;
 
 impl Walk {
     /// The number that a variable holds.
-    pub(crate) fn number(&self, variable: u32) -> i32
+    pub(crate) fn number(&self, variable: usize) -> i32
         ensures { result ≡ value_of self.now.variables.items variable }
     {
-        match self.variables.get(variable as usize) {
+        match self.variables.get(variable) {
             Some(Scalar::Number(number)) => *number,
             _ => 0,
         }
     }
 
     /// The pointer that a variable holds.
-    pub(crate) fn pointer(&self, variable: u32) -> CheckedPointer
+    pub(crate) fn pointer(&self, variable: usize) -> CheckedPointer
         ensures { result ≡ pointer_of (slice_index_or self.now.variables.items variable zero_of) }
     {
-        match self.variables.get(variable as usize) {
+        match self.variables.get(variable) {
             Some(Scalar::Pointer(pointer)) => *pointer,
             _ => NULL,
         }

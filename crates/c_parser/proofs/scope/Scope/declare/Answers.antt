@@ -1,13 +1,10 @@
 use Rattle.std.proofs.Common.{◌≡◌, ◌++◌, ◌∷◌, [], rules, arith}
 use Rattle.std.proofs.lemmas.Grind.{common_steps}
-use Rattle.c_parser.proofs.ScopeLemmas.{names_low, scope_declared}
+use Rattle.c_parser.proofs.ScopeLemmas.{scope_declared}
 use Rattle.c_parser.proofs.scope.Scope.declare.Goals as goal
-
-pub declare-requires : goal.declare-requires
-declare-requires c = names_low c.self.inside.names c.self.inside.sorts.items c.args.self.now c.self.view_is c.self.invariant c.requires
 
 pub returns-clause-ok : goal.returns-clause-ok
 returns-clause-ok c =
     let called : c.declare.new.self ≡ c.self.inside.names ++ c.args.name.now ∷ [] = first_of (search rules, grind (arith, common_steps)) in
-    let items : c.push-stored.new.self.items ≡ c.self.inside.sorts.items ++ c.args.sort ∷ [] = first_of (search rules, grind (arith, common_steps)) in
-    scope_declared c.self.inside.names c.self.inside.sorts.items c.args.self.now c.self.view_is c.self.invariant c.declare.new.self c.push-stored.new.self.items c.args.name.now c.args.sort called items
+    let items : c.push-stored.new.self.items ≡ c.self.inside.uses.items ++ c.args.what ∷ [] = first_of (search rules, grind (arith, common_steps)) in
+    scope_declared c.self.inside.names c.self.inside.uses.items c.args.self.now c.self.view_is c.self.invariant c.declare.new.self c.push-stored.new.self.items c.args.name.now c.args.what called items

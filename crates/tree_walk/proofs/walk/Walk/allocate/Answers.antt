@@ -3,7 +3,7 @@ use Rattle.std.proofs.lemmas.Result.{err_from_is_err_and}
 use Rattle.c_types.specs.Table.{basic_types, HasSize}
 use Rattle.heap_model.specs.Forms.{region_for}
 use Rattle.heap_model.specs.declared.calls.Call.TheVariants as call
-use Rattle.c_parser.specs.declared.tree.Target.{Target}
+use Rattle.plain_meaning.specs.declared.tree.Target.{Target}
 use Rattle.plain_meaning.specs.declared.scalar.Scalar.{Scalar}
 use Rattle.plain_meaning.specs.declared.scalar.Scalar.TheVariants.{Number, Pointer}
 use Rattle.plain_meaning.specs.declared.scalar.CheckedPointer.{CheckedPointer}

@@ -4,7 +4,7 @@ use Rattle.std.proofs.lemmas.Int.{to_z-of_z}
 use Rattle.std.proofs.lemmas.Result.{err_from_is_err_and}
 use Rattle.heap_model.specs.Forms.{region_for}
 use Rattle.heap_model.specs.declared.calls.AccessKind.{AccessKind}
-use Rattle.c_parser.specs.declared.tree.Target.{Target}
+use Rattle.plain_meaning.specs.declared.tree.Target.{Target}
 use Rattle.heap_model.specs.declared.calls.Call.TheVariants as call
 use Rattle.plain_meaning.specs.declared.scalar.Scalar.{Scalar}
 use Rattle.plain_meaning.specs.declared.scalar.Scalar.TheVariants.{Pointer}

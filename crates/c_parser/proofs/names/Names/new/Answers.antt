@@ -1,5 +1,0 @@
-use Rattle.c_parser.proofs.MapLemmas.{kept_none}
-use Rattle.c_parser.proofs.names.Names.new.Goals as goal
-
-pub invariant_of-result : goal.invariant_of-result
-invariant_of-result c = rw c.new-2.ensures.items (kept_none c.new.result c.new.ensures.empty)

@@ -1,0 +1,28 @@
+use Rattle.std.proofs.Common.{rules, ◌≡◌, arith}
+use Rattle.std.proofs.lemmas.Grind.{common_steps}
+use Rattle.c_grammar.specs.Units.{Derives}
+use Rattle.grammar_descent.specs.AllReaders.{read_unit}
+use Rattle.c_parser.specs.declared.error.ParseError.TheVariants.{Syntax}
+use Rattle.c_parser.proofs.UnitLaws.{only_unit, memory_unit, none_unit}
+use Rattle.c_parser.proofs.units.parse.Goals as goal
+
+pub returns-in_err-items-clause-only : goal.returns-in_err-items-clause-only
+returns-in_err-items-clause-only c unit derives =
+    let memory = memory_unit (read_unit c.args.text.now c.args.tokens.now) (λ x. Derives c.args.text.now c.args.tokens.now x)
+    (λ x. c.law_readers.ensures.unit c.args.text.now c.args.tokens.now x) c.in_err-items.field-0.0 c.in_err-items.ensures unit derives in
+    first_of (search rules, grind (arith, common_steps))
+
+pub returns-in_err-items-clause-refused : goal.returns-in_err-items-clause-refused
+returns-in_err-items-clause-refused c at is unit derives =
+    let syntax : c.in_err-items.field-0.0 ≡ Syntax at = first_of (search rules, grind (arith, common_steps)) in
+    none_unit (read_unit c.args.text.now c.args.tokens.now) (λ x. Derives c.args.text.now c.args.tokens.now x)
+    (λ x. c.law_readers.ensures.unit c.args.text.now c.args.tokens.now x) c.in_err-items.field-0.0 c.in_err-items.ensures at syntax unit derives
+
+pub returns-clause-found : goal.returns-clause-found
+returns-clause-found c =
+    (c.law_readers.ensures.unit c.args.text.now c.args.tokens.now (record { items = c.in_ok-items.items })).0 c.in_ok-items.ensures
+
+pub returns-clause-only : goal.returns-clause-only
+returns-clause-only c unit derives =
+    only_unit (read_unit c.args.text.now c.args.tokens.now) (λ x. Derives c.args.text.now c.args.tokens.now x)
+    (λ x. c.law_readers.ensures.unit c.args.text.now c.args.tokens.now x) c.in_ok-items.items c.in_ok-items.ensures unit derives

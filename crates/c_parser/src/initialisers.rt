@@ -1,0 +1,112 @@
+//! Expressions by themselves, and initialisers (C11 6.7.9).
+
+ghost use Rattle.std.specs.Prelude.{◌≤◌, ◌+◌, [], length};
+ghost use Rattle.grammar_descent.specs.AllReaders.{readers};
+ghost use Rattle.grammar_descent.specs.InitialiserSteps as step;
+ghost use Rattle.c_parser.specs.Input.{Reads};
+ghost use Rattle.c_parser.specs.Closing as closing;
+
+use crate::error::ParseError;
+use crate::levels::ASSIGNED;
+use crate::phrases;
+use crate::reader::Reader;
+use c_grammar::{Expression, Initialiser};
+use c_tokens::Mark;
+use sqlite_items::Items;
+use std::alloc::Global;
+
+/// An expression without its height.
+#[tactic(auto, unfolding(grammar_descent::specs::InitialiserSteps::expression))]
+pub fn expression(
+    alloc: Global,
+    reader: &mut Reader<'_>,
+    depth: u32,
+    level: u8,
+) -> Result<Expression, ParseError>
+    requires { depth ≤ 200 }
+    ensures { Reads (λ text ts. step.expression ts (readers text ts) depth level) reader.old result reader.new }
+{
+    let (found, _) = phrases::expression(alloc, reader, depth, level)?;
+    Ok(found)
+}
+
+#[tactic(auto, unfolding(grammar_descent::specs::InitialiserSteps::value))]
+fn value(alloc: Global, reader: &mut Reader<'_>, depth: u32) -> Result<Initialiser, ParseError>
+    requires { depth ≤ 200 }
+    ensures { Reads (λ text ts. step.value ts (readers text ts) depth) reader.old result reader.new }
+{
+    Ok(Initialiser::Value(expression(alloc, reader, depth, ASSIGNED)?))
+}
+
+/// Goes past a comma, or past the brace that closes a list with or without a comma before it, and answers whether it was closed.
+fn closed(reader: &mut Reader<'_>) -> Result<bool, ParseError>
+    ensures { Reads (λ text ts. closing.closed ts) reader.old result reader.new }
+{
+    if reader.sees_mark(Mark::RightBrace) {
+        reader.pass(1);
+        return Ok(true);
+    }
+    if !reader.sees_mark(Mark::Comma) {
+        return Err(reader.refuse());
+    }
+    if reader.sees_mark_behind(1, Mark::RightBrace) {
+        reader.pass(2);
+        Ok(true)
+    } else {
+        reader.pass(1);
+        Ok(false)
+    }
+}
+
+/// What stands behind a `{` up to the `}` that closes it. `depth` is that of the parts.
+#[cycle(initialiser)]
+fn initialisers(
+    alloc: Global,
+    reader: &mut Reader<'_>,
+    depth: u32,
+) -> Result<Items<Initialiser>, ParseError>
+    requires { depth ≤ 200 }
+    ensures { Reads (λ text ts. step.initialisers ts (readers text ts) (step.initialiser ts (readers text ts) depth) (length ts) []) reader.old result reader.new }
+{
+    let mut found = Items::new(alloc);
+    for _turn in 0..reader.tokens_len() {
+        found.push(initialiser(alloc, reader, depth)?)?;
+        if closed(reader)? {
+            return Ok(found);
+        }
+    }
+    Err(reader.refuse())
+}
+
+#[cycle(initialiser)]
+#[tactic(auto, unfolding(grammar_descent::specs::InitialiserSteps::braces))]
+fn braces(alloc: Global, reader: &mut Reader<'_>, depth: u32) -> Result<Initialiser, ParseError>
+    requires small { depth ≤ 200 }
+    requires within { reader.old.state.at + 1 ≤ length reader.old.tokens }
+    ensures { Reads (λ text ts. step.braces ts (readers text ts) (step.initialiser ts (readers text ts) depth)) reader.old result reader.new }
+{
+    let place = reader.place();
+    reader.pass(1);
+    let all = initialisers(alloc, reader, depth)?;
+    Ok(Initialiser::Braces(place, all))
+}
+
+/// An initialiser that is nested no deeper than `depth`.
+#[cycle(initialiser)]
+pub fn initialiser(
+    alloc: Global,
+    reader: &mut Reader<'_>,
+    depth: u32,
+) -> Result<Initialiser, ParseError>
+    requires { depth ≤ 200 }
+    ensures { Reads (λ text ts. step.initialiser ts (readers text ts) depth) reader.old result reader.new }
+{
+    if reader.sees_mark(Mark::LeftBrace) {
+        if depth == 0 {
+            return Err(reader.refuse());
+        }
+        braces(alloc, reader, depth - 1)
+    } else {
+        value(alloc, reader, depth)
+    }
+}

@@ -1,0 +1,77 @@
+//! The parsers of all phrases that nest no deeper than some depth. They lead to one another: what is nested in a phrase is read
+//! by those of the depth below, and the values of enumeration constants by that of expressions of the same depth.
+
+ghost use Rattle.std.specs.Prelude.{◌≤◌};
+ghost use Rattle.grammar_descent.specs.AllReaders.{readers};
+ghost use Rattle.c_parser.specs.Input.{Reads};
+ghost use Rattle.c_parser.specs.Nests.{with_use};
+ghost use Rattle.c_parser.specs.Naming.{as_naming};
+
+use crate::declaring::Declaring;
+use crate::error::ParseError;
+use crate::found::{FoundDeclarator, FoundExpression, FoundSpecs};
+use crate::inner::Inner;
+use crate::naming::Naming;
+use crate::reader::Reader;
+use std::alloc::Global;
+
+/// An expression of the level.
+#[cycle(phrases)]
+pub fn expression(
+    alloc: Global,
+    reader: &mut Reader<'_>,
+    depth: u32,
+    level: u8,
+) -> Result<FoundExpression, ParseError>
+    requires { depth ≤ 200 }
+    ensures { Reads (λ text ts. (readers text ts depth).expression level) reader.old result reader.new }
+{
+    if depth == 0 {
+        return Err(reader.refuse());
+    }
+    Inner {
+        alloc,
+        depth: depth - 1,
+        expression,
+        specs,
+        declarator,
+    }
+    .expression_step(reader, level)
+}
+
+/// Declaration specifiers.
+#[cycle(phrases)]
+pub fn specs(alloc: Global, reader: &mut Reader<'_>, depth: u32) -> Result<FoundSpecs, ParseError>
+    requires { depth ≤ 200 }
+    ensures { Reads (λ text ts. with_use (readers text ts depth).specs) reader.old result reader.new }
+{
+    Declaring {
+        alloc,
+        depth,
+        expression,
+        specs,
+        declarator,
+    }
+    .read_specs(reader)
+}
+
+/// A declarator.
+#[cycle(phrases)]
+pub fn declarator(
+    alloc: Global,
+    reader: &mut Reader<'_>,
+    depth: u32,
+    how: Naming,
+) -> Result<FoundDeclarator, ParseError>
+    requires { depth ≤ 200 }
+    ensures { Reads (λ text ts. (readers text ts depth).declarator (as_naming how)) reader.old result reader.new }
+{
+    Declaring {
+        alloc,
+        depth,
+        expression,
+        specs,
+        declarator,
+    }
+    .read_declarator(reader, how)
+}

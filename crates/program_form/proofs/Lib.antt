@@ -1,0 +1,3 @@
+pub mod ScopeLemmas
+pub mod StepLemmas
+pub mod StringLemmas
