@@ -71,7 +71,7 @@ static SOUND: [Row; 14] = [
 ];
 
 /// Bodies and what is reported of them.
-static REPORTED: [Row; 18] = [
+static REPORTED: [Row; 19] = [
     // below the object and above it, and far away
     (
         "int *p = malloc(8); p[0 - 1] = 1;",
@@ -143,6 +143,11 @@ static REPORTED: [Row; 18] = [
     // a null pointer
     ("int *q = (int *)q; q[0] = 1;", "Null"),
     ("int *q = (int *)q; P(q[0]);", "Null"),
+    // an inner pointer means itself in its own value
+    (
+        "int *p = malloc(4); { int *p = (int *)p; p[0] = 1; }",
+        "Null",
+    ),
 ];
 
 /// Programs whose report has the line of its statement.

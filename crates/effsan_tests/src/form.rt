@@ -293,7 +293,7 @@ static OTHER_POINTERS: [&str; 56] = [
 ];
 
 /// Uses of a pointer that C has and the form does not.
-static OTHER_USES: [&str; 9] = [
+static OTHER_USES: [&str; 12] = [
     "int *p = malloc(4); *p = 1;",
     "int *p = malloc(4); int x = *p;",
     "int *p = malloc(4); (p)[0] = 1;",
@@ -303,6 +303,10 @@ static OTHER_USES: [&str; 9] = [
     "int *p = malloc(4); (p[0]) = 1;",
     "int *p = malloc(4); p[0 > 1] = 1;",
     "int *p = malloc(4); free((p));",
+    // what an inner name of another sort hides
+    "int *p = malloc(4); { int p = 1; p[0] = 1; }",
+    "int p = 1; { int *p = malloc(4); p = 2; }",
+    "int *p = malloc(4); { int p = p[0]; }",
 ];
 
 /// Bodies that are no C, and the line of the first token that cannot stand there. A body begins on line 3, and the brace that

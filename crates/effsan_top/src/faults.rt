@@ -26,7 +26,7 @@ pub enum TextFault {
     BadDirective,
     /// A macro whose replacement leads back to itself.
     MacroLoop,
-    /// What is left is no unit of C's grammar.
+    /// What is left is no unit of the profile's grammar.
     Syntax,
     /// A declaration or a function that does not run yet.
     NotYet,

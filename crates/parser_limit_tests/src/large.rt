@@ -234,10 +234,10 @@ fn long_texts_that_nest_too_deep_are_refused(rt: HostRuntime) -> Result<(), Fail
 
 #[test]
 fn thirty_thousand_names_of_types_are_used_in_turn(rt: HostRuntime) -> Result<(), Fail> {
-    let mut text = String::from_str(rt.alloc(), "typedef int T0;")?;
+    let mut text = String::from_str(rt.alloc(), "typedef int t0;")?;
     for number in 1..30_000u32 {
         let before = number - 1;
-        write!(text, "typedef T{before} T{number};")?;
+        write!(text, "typedef t{before} t{number};")?;
     }
     let found = counted(rt.alloc(), text.as_str(), Parts::Externals)?;
     assert_eq!(rt; found, Some(30_000));

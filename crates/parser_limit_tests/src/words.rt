@@ -146,6 +146,21 @@ fn keywords_are_no_names(rt: HostRuntime) -> Result<(), Fail> {
 }
 
 #[test]
+fn keywords_are_no_operands(rt: HostRuntime) -> Result<(), Fail> {
+    for (word, _) in KEYWORDS.iter() {
+        // `sizeof` begins an operand, and lacks its own
+        let token = if *word == "sizeof" { 9 } else { 8 };
+        let text = format!(in rt.alloc(); "void f(void) {{ x = {word}; }}")?;
+        assert_eq!(rt;
+            refused_at(rt.alloc(), text.as_bytes())?,
+            Some(token),
+            "{text}"
+        );
+    }
+    Ok(())
+}
+
+#[test]
 fn a_keyword_behind_a_type_is_a_specifier_or_refused(rt: HostRuntime) -> Result<(), Fail> {
     for (word, is_specifier) in KEYWORDS.iter() {
         let text = format!(in rt.alloc(); "int {word} x = 1;")?;

@@ -155,6 +155,29 @@ void two(void) { free(p); }"#,
      (define [void] (function two []) (block (; (call free [p]))))",
 )];
 
+/// Types, objects and a function of a list.
+static LIST: [Row; 2] = [
+    (
+        r#"struct S { char name[8]; int n; int a[3]; };
+union U { struct { int a; int b[2]; } s; int c[2]; };
+struct V { int n; long v[]; };"#,
+        "(declare [(struct S [(member [char] (array name 8)) (member [int] n) (member [int] (array a 3))])]) \
+         (declare [(union U [(member [(struct - [(member [int] a) (member [int] (array b 2))])] s) (member [int] (array c 2))])]) \
+         (declare [(struct V [(member [int] n) (member [long] (array v))])])",
+    ),
+    (
+        r#"#define COUNT 3
+typedef struct Node { struct Node *next; } Node;
+static Node *head;
+static void push(Node *n) { n->next = head; head = n; }
+const char *names[COUNT] = { "ada", "grace", "edsger" };"#,
+        "(declare [typedef (struct Node [(member [(struct Node)] (* next))])] Node) \
+         (declare [static Node] (* head)) \
+         (define [static void] (function push [([Node] (* n))]) (block (; (= (-> n next) head)) (; (= head n)))) \
+         (declare [const char] (= (* (array names 3)) {\"1\" \"1\" \"1\"}))",
+    ),
+];
+
 fn check(rt: &impl Abort, alloc: Global, rows: &[Row], view: View) -> Result<(), AllocError> {
     for (text, wanted) in rows {
         let found = shown_program(alloc, text.as_bytes(), view)?;
@@ -166,5 +189,6 @@ fn check(rt: &impl Abort, alloc: Global, rows: &[Row], view: View) -> Result<(),
 #[test]
 fn programs_are_read(rt: HostRuntime) -> Result<(), AllocError> {
     check(&rt, rt.alloc(), PROGRAMS.as_slice(), View::Count)?;
-    check(&rt, rt.alloc(), FREED.as_slice(), View::Whole)
+    check(&rt, rt.alloc(), FREED.as_slice(), View::Whole)?;
+    check(&rt, rt.alloc(), LIST.as_slice(), View::Whole)
 }

@@ -91,8 +91,8 @@ pub fn shown_program(alloc: Global, text: &[u8], view: View) -> Result<String, A
     }
 }
 
-/// The name of a type, where `T` and `U` are types.
-pub fn shown_type_name(alloc: Global, text: &[u8]) -> Result<String, AllocError> {
+/// The name of a type, where names of these letters are types.
+pub fn shown_type_name(alloc: Global, text: &[u8], letters: &[u8]) -> Result<String, AllocError> {
     if text.len() > MAX_TEXT {
         return format!(in alloc; "too large");
     }
@@ -102,11 +102,12 @@ pub fn shown_type_name(alloc: Global, text: &[u8]) -> Result<String, AllocError>
     if tokens.len() > 200_000 {
         return format!(in alloc; "too many tokens");
     }
-    let mut first = Text::new(alloc);
-    first.push(b'T')?;
-    let mut second = Text::new(alloc);
-    second.push(b'U')?;
-    let types = [first, second];
+    let mut types = Vec::new(alloc);
+    for letter in letters {
+        let mut name = Text::new(alloc);
+        name.push(*letter)?;
+        types.push(name)?;
+    }
     match parse_type_name(alloc, text, tokens.as_slice(), types.as_slice()) {
         Ok(tree) => {
             let mut out = Sketch::new(alloc, false);

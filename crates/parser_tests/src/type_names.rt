@@ -145,9 +145,18 @@ static REFUSED: [Row; 41] = [
     ("struct S { int a; } x", "token 7"),
 ];
 
-fn check(rt: &impl Abort, alloc: Global, rows: &[Row]) -> Result<(), AllocError> {
+/// Where no names are types but the predefined ones.
+static ALONE: [Row; 5] = [
+    ("int*", "(type [int] (* -))"),
+    ("size_t [2]", "(type [size_t] (array - 2))"),
+    ("T", "token 0"),
+    ("const T *", "token 1"),
+    ("int (T)", "token 2"),
+];
+
+fn check(rt: &impl Abort, alloc: Global, rows: &[Row], letters: &[u8]) -> Result<(), AllocError> {
     for (text, wanted) in rows {
-        let found = shown_type_name(alloc, text.as_bytes())?;
+        let found = shown_type_name(alloc, text.as_bytes(), letters)?;
         assert_eq!(rt; found.as_str(), *wanted, "{text}");
     }
     Ok(())
@@ -155,12 +164,13 @@ fn check(rt: &impl Abort, alloc: Global, rows: &[Row]) -> Result<(), AllocError>
 
 #[test]
 fn names_of_types_have_their_trees(rt: HostRuntime) -> Result<(), AllocError> {
-    check(&rt, rt.alloc(), TYPE_NAMES.as_slice())
+    check(&rt, rt.alloc(), TYPE_NAMES.as_slice(), b"TU")?;
+    check(&rt, rt.alloc(), ALONE.as_slice(), b"")
 }
 
 #[test]
 fn other_tokens_are_no_name_of_a_type(rt: HostRuntime) -> Result<(), AllocError> {
-    check(&rt, rt.alloc(), REFUSED.as_slice())
+    check(&rt, rt.alloc(), REFUSED.as_slice(), b"TU")
 }
 
 /// A form of nesting: what opens and closes, what is inside, how often it nests, and the token that is one too many.
@@ -198,10 +208,10 @@ fn nested(
 fn names_of_types_nest_two_hundred_deep(rt: HostRuntime) -> Result<(), AllocError> {
     for (open, middle, close, deepest, wanted) in NESTINGS {
         let text = nested(rt.alloc(), open, middle, close, deepest)?;
-        let found = shown_type_name(rt.alloc(), text.as_bytes())?;
+        let found = shown_type_name(rt.alloc(), text.as_bytes(), b"TU")?;
         assert!(rt; found.as_str().starts_with("(type "), "{open}{close}");
         let text = nested(rt.alloc(), open, middle, close, deepest + 1)?;
-        let found = shown_type_name(rt.alloc(), text.as_bytes())?;
+        let found = shown_type_name(rt.alloc(), text.as_bytes(), b"TU")?;
         assert_eq!(rt; found.as_str(), wanted, "{open}{close}");
     }
     Ok(())

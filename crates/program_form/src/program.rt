@@ -136,7 +136,7 @@ pub fn program_of(
     Ok(Program { functions })
 }
 
-/// A unit is one program, or is outside the form for one line, and never both.
+/// A unit is one program at most, or is outside the form for one line at most, and never both.
 pub fn law_form()
     ensures { (text : List ℕ) (tokens : List Piece) (unit : Tree) (a b : Result (List Typed) ℕ) → Forms text tokens unit a → Forms text tokens unit b → a ≡ b }
 {

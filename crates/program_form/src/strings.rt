@@ -26,6 +26,18 @@ fn string_of(alloc: Global, text: &[u8], token: &Token) -> Result<Text, AllocErr
     Ok(string)
 }
 
+/// How many bytes of the text the string literals among the tokens may take, where macros repeat them: sixteen times what a text
+/// has at most. More is want of memory.
+const MAX_SPELLED: u32 = 1 << 24;
+
+/// How many bytes of the text a string literal takes, and other tokens none.
+fn spelled(token: &Token) -> u32 {
+    match token.kind {
+        Kind::Str => token.end.saturating_sub(token.start),
+        _ => 0,
+    }
+}
+
 /// What each of the tokens means as a string.
 pub fn strings_of(alloc: Global, text: &[u8], tokens: &[Token]) -> Result<Items<Text>, AllocError>
     requires small { length text.now ≤ 1048576 }
@@ -33,7 +45,12 @@ pub fn strings_of(alloc: Global, text: &[u8], tokens: &[Token]) -> Result<Items<
     ensures { IfOk result (λ strings. spec.AreMeant text.now tokens.now strings) }
 {
     let mut strings = Items::new(alloc);
+    let mut room = MAX_SPELLED;
     for token in tokens {
+        let Some(left) = room.checked_sub(spelled(token)) else {
+            return Err(AllocError);
+        };
+        room = left;
         let string = string_of(alloc, text, token)?;
         strings.push(string)?;
     }
