@@ -3,8 +3,8 @@ use Rattle.std.proofs.Common.{◌≡◌, ℕ, zero, suc, ◌+◌, ◌-◌, ◌<�
 use Rattle.c_grammar.specs.declared.phrases.Expression.{Expression}
 use Rattle.grammar_descent.specs.ExpressionSteps as step
 use Rattle.grammar_descent.specs.AllReaders.{readers}
-use Rattle.c_parser.specs.declared.error.ParseError.{ParseError}
-use Rattle.c_parser.specs.Input.{Input, Reads}
+use Rattle.token_reader.specs.declared.error.ParseError.{ParseError}
+use Rattle.token_reader.specs.Input.{Input, Reads}
 
 -- no expression has depth 0
 pub none_at_zero : (depth level : ℕ) (input : Input) (e : ParseError) → depth ≡ 0 →

@@ -2,8 +2,8 @@
 use Rattle.std.proofs.Common.{◌≡◌, ◌↔◌, ℕ, List, Option, Some, Err, refl, ap, alloc_error}
 use Rattle.c_grammar.specs.declared.units.External.{External}
 use Rattle.c_grammar.specs.declared.units.Unit.{Unit as Tree}
-use Rattle.c_parser.specs.declared.error.ParseError.{ParseError}
-use Rattle.c_parser.specs.declared.error.ParseError.TheVariants.{Memory, Syntax}
+use Rattle.token_reader.specs.declared.error.ParseError.{ParseError}
+use Rattle.token_reader.specs.declared.error.ParseError.TheVariants.{Memory, Syntax}
 use Rattle.c_parser.specs.Answers.{Answers}
 
 -- What is found is the one thing that has the property.

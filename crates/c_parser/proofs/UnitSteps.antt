@@ -21,12 +21,12 @@ use Rattle.grammar_descent.specs.StatementSteps as st
 use Rattle.grammar_descent.specs.StatementSteps.{back}
 use Rattle.grammar_descent.specs.UnitSteps as step
 use Rattle.grammar_descent.specs.UnitSteps.{in_function}
-use Rattle.c_parser.specs.declared.uses.Use.{Use as Tells}
-use Rattle.c_parser.specs.Uses.{as_use, use_from}
-use Rattle.c_parser.specs.Nests.{with_use}
+use Rattle.token_reader.specs.declared.uses.Use.{Use as Tells}
+use Rattle.token_reader.specs.Uses.{as_use, use_from}
+use Rattle.token_reader.specs.Nests.{with_use}
 use Rattle.c_parser.specs.Answers.{body_of}
-use Rattle.c_parser.specs.declared.error.ParseError.{ParseError}
-use Rattle.c_parser.specs.Input.{Input, Reads, Gives}
+use Rattle.token_reader.specs.declared.error.ParseError.{ParseError}
+use Rattle.token_reader.specs.Input.{Input, Reads, Gives}
 use Rattle.grammar_descent.specs.AllReaders.{readers}
 use Rattle.c_parser.proofs.Scopes.{grows_on, closed_again}
 use Rattle.c_parser.proofs.Closings.{Closes, after_block}

@@ -9,8 +9,8 @@ use Rattle.grammar_descent.specs.Reading.{Reading, Readers, ◌>>=◌}
 use Rattle.grammar_descent.specs.InitialiserSteps.{Declared, declare}
 use Rattle.grammar_descent.specs.StatementSteps.{back, block}
 use Rattle.grammar_descent.specs.UnitSteps.{in_function}
-use Rattle.c_parser.specs.declared.error.ParseError.{ParseError}
-use Rattle.c_parser.specs.declared.error.ParseError.TheVariants.{Syntax}
+use Rattle.token_reader.specs.declared.error.ParseError.{ParseError}
+use Rattle.token_reader.specs.declared.error.ParseError.TheVariants.{Syntax}
 
 -- what is found, unless memory runs out
 abbrev pub Answers : {A : Type 0} → Result A ParseError → Option A → Type 0

@@ -1,16 +1,3 @@
-pub mod Uses
-pub mod Naming
-pub mod Input
-pub mod Reader
-pub mod Cursor
-pub mod Nests
-pub mod Growing
-pub mod Below
-pub mod Roles
-pub mod Parts
-pub mod Leads
-pub mod Lists
-pub mod WithRoles
 pub mod Answers
 pub mod Closing
 pub mod NestsStatements

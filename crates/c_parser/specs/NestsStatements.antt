@@ -5,8 +5,8 @@ use denote.Ref.{MutBor}
 use Rattle.c_grammar.specs.declared.statements.Statement.{Statement}
 use Rattle.grammar_descent.specs.AllReaders.{readers}
 use Rattle.grammar_descent.specs.StatementSteps.{statement}
-use Rattle.c_parser.specs.declared.error.ParseError.{ParseError}
-use Rattle.c_parser.specs.Input.{Input, Reads}
+use Rattle.token_reader.specs.declared.error.ParseError.{ParseError}
+use Rattle.token_reader.specs.Input.{Input, Reads}
 
 -- It may be called at each depth up to this one, and reads the statements of it.
 pub record NestsStatements (depth : ℕ) (pre : Global → MutBor Input → ℕ → Type 0)

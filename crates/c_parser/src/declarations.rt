@@ -3,21 +3,17 @@
 ghost use Rattle.std.specs.Prelude.{◌≤◌, ◌∷◌, [], length};
 ghost use Rattle.grammar_descent.specs.AllReaders.{readers};
 ghost use Rattle.grammar_descent.specs.InitialiserSteps as step;
-ghost use Rattle.c_parser.specs.Input.{Reads};
-ghost use Rattle.c_parser.specs.Uses.{as_use};
+ghost use Rattle.token_reader.specs.Input.{Reads};
+ghost use Rattle.token_reader.specs.Uses.{as_use};
 
-use crate::declared::Own;
-use crate::error::ParseError;
 use crate::initialisers::initialiser;
-use crate::naming::Naming;
 use crate::phrases;
-use crate::reader::Reader;
-use crate::uses::Use;
 use c_grammar::{Declaration, Declarator, InitDeclarator, Initialiser};
 use c_tokens::Mark;
 use c_types::Text;
 use sqlite_items::Items;
 use std::alloc::Global;
+use token_reader::{Naming, Own, ParseError, Reader, Use};
 
 /// A declarator, the name that it declares, and what the first list of parameters behind the name declares.
 pub type Declared = (Declarator, Text, Option<Own>);

@@ -3,17 +3,16 @@
 ghost use Rattle.std.specs.Prelude.{◌≤◌, ◌+◌, [], length};
 ghost use Rattle.grammar_descent.specs.AllReaders.{readers};
 ghost use Rattle.grammar_descent.specs.InitialiserSteps as step;
-ghost use Rattle.c_parser.specs.Input.{Reads};
+ghost use Rattle.token_reader.specs.Input.{Reads};
 ghost use Rattle.c_parser.specs.Closing as closing;
 
-use crate::error::ParseError;
-use crate::levels::ASSIGNED;
 use crate::phrases;
-use crate::reader::Reader;
 use c_grammar::{Expression, Initialiser};
 use c_tokens::Mark;
 use sqlite_items::Items;
 use std::alloc::Global;
+use token_reader::levels::ASSIGNED;
+use token_reader::{ParseError, Reader, refused_at};
 
 /// An expression without its height.
 #[tactic(auto, unfolding(grammar_descent::specs::InitialiserSteps::expression))]
@@ -91,7 +90,7 @@ fn braces(alloc: Global, reader: &mut Reader<'_>, depth: u32) -> Result<Initiali
     Ok(Initialiser::Braces(place, all))
 }
 
-/// An initialiser that is nested no deeper than `depth`.
+/// An initialiser that is nested no deeper than `depth`. Where none fits into braces, the brace that opens them is refused.
 #[cycle(initialiser)]
 pub fn initialiser(
     alloc: Global,
@@ -105,7 +104,9 @@ pub fn initialiser(
         if depth == 0 {
             return Err(reader.refuse());
         }
-        braces(alloc, reader, depth - 1)
+        let brace = (depth == 1).then_some(reader.at() as u32);
+        let found = braces(alloc, reader, depth - 1);
+        refused_at(found, brace)
     } else {
         value(alloc, reader, depth)
     }

@@ -3,17 +3,14 @@
 
 ghost use Rattle.std.specs.Prelude.{◌≤◌};
 ghost use Rattle.grammar_descent.specs.AllReaders.{readers};
-ghost use Rattle.c_parser.specs.Input.{Reads};
-ghost use Rattle.c_parser.specs.Nests.{with_use};
-ghost use Rattle.c_parser.specs.Naming.{as_naming};
+ghost use Rattle.token_reader.specs.Input.{Reads};
+ghost use Rattle.token_reader.specs.Nests.{with_use};
+ghost use Rattle.token_reader.specs.Naming.{as_naming};
 
-use crate::declaring::Declaring;
-use crate::error::ParseError;
-use crate::found::{FoundDeclarator, FoundExpression, FoundSpecs};
-use crate::inner::Inner;
-use crate::naming::Naming;
-use crate::reader::Reader;
+use declarator_parser::Declaring;
+use expression_parser::Inner;
 use std::alloc::Global;
+use token_reader::{FoundDeclarator, FoundExpression, FoundSpecs, Naming, ParseError, Reader};
 
 /// An expression of the level.
 #[cycle(phrases)]

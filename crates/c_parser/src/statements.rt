@@ -8,21 +8,20 @@ ghost use Rattle.c_grammar.specs.Tokens as token;
 ghost use Rattle.grammar_descent.specs.AllReaders.{readers};
 ghost use Rattle.grammar_descent.specs.Reading as reading;
 ghost use Rattle.grammar_descent.specs.StatementSteps as step;
-ghost use Rattle.c_parser.specs.Input.{Reads};
+ghost use Rattle.token_reader.specs.Input.{Reads};
 ghost use Rattle.c_parser.specs.ForHeader as header;
 ghost use Rattle.c_parser.specs.NestsStatements.{NestsStatements};
-ghost use Rattle.c_parser.specs.Reader as spec;
+ghost use Rattle.token_reader.specs.Reader as spec;
 
 use crate::declarations::declaration;
-use crate::error::ParseError;
 use crate::initialisers::expression;
-use crate::levels::{ANY, CONDITIONAL};
-use crate::reader::Reader;
 use c_grammar::{Block, BlockItem, Expression, ForStart, Statement};
 use c_tokens::{Keyword, Kind, Mark};
 use grammar_descent::law_readers;
 use sqlite_items::{Boxed, Items};
 use std::alloc::Global;
+use token_reader::levels::{ANY, CONDITIONAL};
+use token_reader::{ParseError, Reader, refused_at};
 
 /// Goes past a word and the mark behind it.
 fn pass_with(reader: &mut Reader<'_>, mark: Mark) -> Result<(), ParseError>
@@ -202,6 +201,21 @@ fn returned(alloc: Global, reader: &mut Reader<'_>, depth: u32) -> Result<Statem
     reader.pass(1);
     let value = optional(alloc, reader, depth, Mark::Semicolon)?;
     Ok(Statement::Return(place, value))
+}
+
+/// Whether the next word begins a statement that has parts.
+fn needs_parts(reader: &Reader<'_>) -> bool {
+    matches!(
+        reader.kind(),
+        Some(Kind::Word(
+            Keyword::If
+                | Keyword::While
+                | Keyword::Do
+                | Keyword::For
+                | Keyword::Switch
+                | Keyword::Case
+        ))
+    )
 }
 
 /// The parsers of what stands in a statement: `depth` is that of its parts, and statements no deeper than that are read by `statement`.
@@ -409,7 +423,7 @@ impl<F: Fn(Global, &mut Reader<'_>, u32) -> Result<Statement, ParseError>> Parts
     }
 
     /// By the first token.
-    fn any(&self, reader: &mut Reader<'_>) -> Result<Statement, ParseError>
+    fn by_first(&self, reader: &mut Reader<'_>) -> Result<Statement, ParseError>
         requires { NestsStatements self.now.depth (F.pre self.now.statement) (F.post self.now.statement) }
         ensures { Reads (λ text ts s. step.statement_by text ts (readers text ts) self.now.depth (step.statement text ts (readers text ts) self.now.depth) (step.block text ts (readers text ts) self.now.depth) s (token.kind_at ts s.at)) reader.old result reader.new }
     {
@@ -423,6 +437,18 @@ impl<F: Fn(Global, &mut Reader<'_>, u32) -> Result<Statement, ParseError>> Parts
             Some(Kind::Word(word)) => self.by_word(reader, word),
             _ => of_expression(self.alloc, reader, self.depth),
         }
+    }
+
+    /// The same; its first word is refused where no depth is left for the parts that it needs.
+    #[tactic(auto, using(token_reader::proofs::Refusals::same_reads))]
+    fn any(&self, reader: &mut Reader<'_>) -> Result<Statement, ParseError>
+        requires { NestsStatements self.now.depth (F.pre self.now.statement) (F.post self.now.statement) }
+        ensures { Reads (λ text ts s. step.statement_by text ts (readers text ts) self.now.depth (step.statement text ts (readers text ts) self.now.depth) (step.block text ts (readers text ts) self.now.depth) s (token.kind_at ts s.at)) reader.old result reader.new }
+    {
+        let too_deep = self.depth == 0 && needs_parts(reader);
+        let start = too_deep.then_some(reader.at() as u32);
+        let found = self.by_first(reader);
+        refused_at(found, start)
     }
 }
 

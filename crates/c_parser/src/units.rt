@@ -8,24 +8,22 @@ ghost use Rattle.c_grammar.specs.Units.{Derives, DerivesTypeName, max_depth};
 ghost use Rattle.grammar_descent.specs.AllReaders.{readers, read_unit, read_type_name};
 ghost use Rattle.grammar_descent.specs.UnitSteps as step;
 ghost use Rattle.c_parser.specs.Answers.{Answers, body_of};
-ghost use Rattle.c_parser.specs.Input.{Reads};
-ghost use Rattle.c_parser.specs.Reader as spec;
-ghost use Rattle.c_parser.specs.Uses.{as_use};
+ghost use Rattle.token_reader.specs.Input.{Reads};
+ghost use Rattle.token_reader.specs.Reader as spec;
+ghost use Rattle.token_reader.specs.Uses.{as_use};
+ghost use Rattle.tree_sizes.specs.Sizes.{nodes_of_unit};
 
 use crate::declarations::{declarator, init_declarators};
-use crate::declared::Own;
-use crate::error::ParseError;
-use crate::naming::Naming;
 use crate::phrases;
-use crate::reader::Reader;
 use crate::statements::block;
-use crate::uses::Use;
 use c_grammar::{Block, Declaration, Declarator, External, Function, TypeName, Unit};
 use c_tokens::{Mark, Token};
 use c_types::Text;
 use grammar_descent::law_readers;
 use sqlite_items::Items;
 use std::alloc::{AllocError, Global};
+use token_reader::{Naming, Own, ParseError, Reader, Use};
+use tree_sizes::law_sizes;
 
 /// How deep statements, expressions, declarators, lists of members and initialisers in braces may nest.
 const MAX_DEPTH: u32 = 200;
@@ -166,8 +164,10 @@ pub fn parse(alloc: Global, text: &[u8], tokens: &[Token]) -> Result<Unit, Parse
     ensures only { (unit : Tree) → Derives text.now tokens.now unit → MatchResult result (λ answer. answer ≡ unit) (λ e. e ≡ ParseError.Memory alloc_error) }
     // Nothing derives what is refused.
     ensures refused { (at : ℕ) → IsErrOf result (ParseError.Syntax at) → (unit : Tree) → Derives text.now tokens.now unit → ⊥ }
+    ensures few { IfOk result (λ unit. nodes_of_unit unit ≤ 2000000) }
 {
     law_readers();
+    law_sizes();
     let items = unit_items(alloc, text, tokens)?;
     Ok(Unit { items })
 }

@@ -136,13 +136,14 @@ fn a_text_has_at_most_a_mebibyte(rt: HostRuntime) -> Result<(), Fail> {
 #[test]
 fn a_text_has_at_most_two_hundred_thousand_tokens(rt: HostRuntime) -> Result<(), Fail> {
     // a function has seven tokens, and an empty block two
-    for (blocks, status, err) in [
-        (99_996, 0, ""),
-        (99_997, 3, "effsan: line 1: TooManyTokens\n"),
+    for (block, blocks, status, err) in [
+        ("{}", 99_996, 0, ""),
+        ("{}", 99_997, 3, "effsan: line 1: TooManyTokens\n"),
+        ("{}\n", 99_997, 3, "effsan: line 99998: TooManyTokens\n"),
     ] {
         let mut source = Vec::new(rt.alloc());
         source.extend_from_slice(b"void f(void) {")?;
-        repeated(rt.alloc(), &mut source, b"{}", blocks)?;
+        repeated(rt.alloc(), &mut source, block.as_bytes(), blocks)?;
         source.extend_from_slice(b" }")?;
         let left = play(rt.alloc(), source.as_slice())?;
         assert_eq!(rt; left.status, status);

@@ -6,7 +6,7 @@ use std::process::Abort;
 use std::test::Fail;
 
 /// Texts and what they print.
-static PRINTED: [(&str, &str); 8] = [
+static PRINTED: [(&str, &str); 9] = [
     (
         "#include <stdio.h>\n#include <stdlib.h>\n#define LAST 3\nvoid f(void) { int i = 1; while (i <= LAST) { printf(\"%d\\n\", i); i = i + 1; } }",
         "1\n2\n3\n",
@@ -39,6 +39,11 @@ static PRINTED: [(&str, &str); 8] = [
     (
         "#define whiles while\nvoid f(void) { int x = 1; whiles (x < 3) x = x + 1; printf(\"%d\\n\", x); }",
         "3\n",
+    ),
+    // a number and a name behind it are two tokens, of which a macro may take one away
+    (
+        "#define abc\nvoid f(void) { int x = 1abc; printf(\"%d\\n\", x); }",
+        "1\n",
     ),
     // a number of another type may be defined, where it is not used
     (
@@ -125,5 +130,35 @@ fn macros_that_double_are_refused_at_one_token_too_many(rt: HostRuntime) -> Resu
         b"effsan: line 19: TooManyTokens\n".as_slice()
     );
     assert_eq!(rt; left.out.len(), 0);
+    Ok(())
+}
+
+/// A macro that stands for a name of 400,000 letters, used so many times.
+fn long_names(alloc: Global, uses: u32) -> Result<String, AllocError> {
+    let mut source = String::new(alloc);
+    source.push_str("#define N ")?;
+    for _ in 0..20_000u32 {
+        source.push_str("abcdefghijklmnopqrst")?;
+    }
+    source.push_str("\nvoid f(void) {")?;
+    for _ in 0..uses {
+        source.push_str(" N;")?;
+    }
+    source.push_str(" }")?;
+    Ok(source)
+}
+
+#[test]
+fn names_that_macros_repeat_to_more_than_16_mib_are_want_of_memory(
+    rt: HostRuntime,
+) -> Result<(), AllocError> {
+    let source = long_names(rt.alloc(), 41)?;
+    let left = play(rt.alloc(), source.as_bytes())?;
+    assert_eq!(rt; left.status, 3);
+    assert_eq!(rt; left.err.as_slice(), b"effsan: line 2: NotYet\n".as_slice());
+    let source = long_names(rt.alloc(), 42)?;
+    let left = play(rt.alloc(), source.as_bytes())?;
+    assert_eq!(rt; left.status, 6);
+    assert_eq!(rt; left.err.as_slice(), b"effsan: out of memory\n".as_slice());
     Ok(())
 }

@@ -4,7 +4,7 @@ use crate::tools::{Frame, differences};
 use std::alloc::Global;
 use std::test::Fail;
 
-/// What opens and closes, how often it nests, and the token that is refused where it nests once more, where that is tested.
+/// What opens and closes, how often it nests, and the token that is refused where it nests once more.
 type Nest = (&'static str, &'static str, u32, Option<u32>);
 
 /// With what stands before, in the middle and behind.
@@ -13,17 +13,17 @@ type Framed = (Frame, &'static str, &'static str, u32, Option<u32>);
 /// Statements round `;` in a body, which is one deep. Their first token is number 6.
 static STATEMENTS: [Nest; 12] = [
     ("{", "}", 198, Some(205)),
-    ("if (1) ", "", 198, None),
-    ("if (1) ; else ", "", 198, None),
-    ("if (1) ", " else ;", 198, None),
-    ("while (1) ", "", 198, None),
-    ("do ", " while (1);", 198, None),
-    ("for (;;) ", "", 198, None),
-    ("for (1; 1; 1) ", "", 198, None),
-    ("for (int i = 1;;) ", "", 198, None),
-    ("switch (1) {", "}", 99, None),
-    ("switch (1) { default: ", "}", 99, None),
-    ("switch (1) { case 1: ", "}", 98, None),
+    ("if (1) ", "", 198, Some(798)),
+    ("if (1) ; else ", "", 198, Some(1194)),
+    ("if (1) ", " else ;", 198, Some(798)),
+    ("while (1) ", "", 198, Some(798)),
+    ("do ", " while (1);", 198, Some(204)),
+    ("for (;;) ", "", 198, Some(996)),
+    ("for (1; 1; 1) ", "", 198, Some(1590)),
+    ("for (int i = 1;;) ", "", 198, Some(1788)),
+    ("switch (1) {", "}", 99, Some(501)),
+    ("switch (1) { default: ", "}", 99, Some(699)),
+    ("switch (1) { case 1: ", "}", 98, Some(795)),
 ];
 
 /// Expressions round a name behind `return`, which is two deep. Their first token is number 7.
@@ -87,7 +87,7 @@ static EXPRESSIONS: [Nest; 53] = [
 static PAIRS: [Nest; 8] = [
     ("++(", ")", 98, Some(204)),
     ("-(", ")", 98, Some(204)),
-    ("sizeof(", ")", 98, None),
+    ("sizeof(", ")", 98, Some(205)),
     ("sizeof(int[", "])", 98, Some(403)),
     ("(int[", "])1", 98, Some(304)),
     ("1 + (", ")", 98, Some(303)),
@@ -176,11 +176,11 @@ static OTHERS: [Framed; 30] = [
         197,
         Some(207)
     ),
-    framed!("int ", "*", "a", "", ";", 199, None),
-    framed!("int ", "* const ", "a", "", ";", 199, None),
+    framed!("int ", "*", "a", "", ";", 199, Some(200)),
+    framed!("int ", "* const ", "a", "", ";", 199, Some(399)),
     framed!("int ", "*", "f(void) { }", "", "", 198, Some(201)),
-    framed!("int ", "(", "a", ")", ";", 199, None),
-    framed!("int ", "(*", "(a)", ")", ";", 99, None),
+    framed!("int ", "(", "a", ")", ";", 199, Some(200)),
+    framed!("int ", "(*", "(a)", ")", ";", 99, Some(200)),
     framed!("int a", "", "", "[1]", ";", 199, Some(599)),
     framed!("int a", "", "", "[]", ";", 199, Some(400)),
     framed!("int f", "", "", "(void)", ";", 199, Some(599)),
@@ -191,8 +191,8 @@ static OTHERS: [Framed; 30] = [
     framed!("int f(int ", "*", "", "", ");", 199, Some(203)),
     framed!("int f(int ", "(", "a", ")", ");", 198, Some(203)),
     framed!("int f(int ", "(", "*", ")", ");", 198, Some(203)),
-    framed!("", "struct {", "int a;", "} b;", "", 199, None),
-    framed!("", "union U {", "int a;", "} b;", "", 199, None),
+    framed!("", "struct {", "int a;", "} b;", "", 199, Some(399)),
+    framed!("", "union U {", "int a;", "} b;", "", 199, Some(599)),
     framed!(
         "enum { A = ",
         "sizeof(enum { A = ",
@@ -200,12 +200,20 @@ static OTHERS: [Framed; 30] = [
         "})",
         " };",
         199,
-        None
+        Some(1203)
     ),
     framed!("enum { A = ", "(", "1", ")", " };", 199, Some(203)),
-    framed!("int a = ", "{", "1", "}", ";", 199, None),
-    framed!("int a = ", "{1, ", "1", "}", ";", 199, None),
-    framed!("void f(void) { int a = ", "{", "1", "}", "; }", 198, None),
+    framed!("int a = ", "{", "1", "}", ";", 199, Some(202)),
+    framed!("int a = ", "{1, ", "1", "}", ";", 199, Some(600)),
+    framed!(
+        "void f(void) { int a = ",
+        "{",
+        "1",
+        "}",
+        "; }",
+        198,
+        Some(207)
+    ),
     framed!("int a[", "(", "1", ")", "];", 198, Some(201)),
 ];
 

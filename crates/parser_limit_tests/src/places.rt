@@ -79,6 +79,52 @@ static OF_DECLARATORS: [Place; 7] = [
     ("void f(void) { for (int ", "; ;) ; }", 3, 9),
 ];
 
+/// What stands in blocks within one another in a body, how many of them there may be, and the token that is refused in one more.
+static IN_BLOCKS: [(&str, u32, u32); 42] = [
+    ("", 199, 205),
+    ("int;", 199, 205),
+    ("struct S;", 199, 205),
+    ("enum { A };", 199, 205),
+    (";", 198, 205),
+    ("return;", 198, 205),
+    ("break;", 198, 205),
+    ("default: ;", 198, 205),
+    ("int a;", 198, 206),
+    ("int a = 1;", 198, 206),
+    ("int a = sizeof(int);", 198, 206),
+    ("enum { A = 1 };", 198, 208),
+    ("return 1;", 197, 205),
+    ("case 1: ;", 197, 204),
+    ("if (1) ;", 197, 204),
+    ("while (1) ;", 197, 204),
+    ("do ; while (1);", 197, 204),
+    ("for (;;) ;", 197, 204),
+    ("switch (1) { }", 197, 204),
+    ("a;", 197, 204),
+    ("int *a;", 197, 205),
+    ("int (a);", 197, 205),
+    ("int a[];", 197, 206),
+    ("int a[1];", 197, 206),
+    ("int a(int);", 197, 206),
+    ("int a = {1};", 197, 207),
+    ("int a = -1;", 197, 207),
+    ("int a = (int)1;", 197, 207),
+    ("int a = b.c;", 197, 208),
+    ("struct { int a; };", 197, 205),
+    ("union U { int a; };", 197, 206),
+    ("int a = sizeof 1;", 197, 208),
+    ("int a = sizeof(int *);", 197, 210),
+    ("int a = sizeof(1);", 196, 208),
+    ("int a = sizeof(int [1]);", 196, 210),
+    ("int a(struct { int b; } c);", 196, 207),
+    ("int a(int (*)(int));", 195, 209),
+    ("a(1);", 196, 204),
+    ("a, 1;", 196, 204),
+    ("a ? 1 : 2;", 196, 204),
+    ("a = 1;", 196, 204),
+    ("++a;", 196, 203),
+];
+
 /// How many nodes there are from one that is so deep to one that is 200 deep, with both.
 fn nodes_from(depth: u32) -> u32 {
     201u32.saturating_sub(depth)
@@ -159,6 +205,28 @@ fn blocks_are_as_deep_as_their_places(rt: HostRuntime) -> Result<(), Fail> {
 #[test]
 fn declarators_are_as_deep_as_their_places(rt: HostRuntime) -> Result<(), Fail> {
     let wrong = wrong_of(rt.alloc(), OF_DECLARATORS.as_slice(), ARRAYS)?;
+    assert_eq!(rt; wrong.as_str(), "");
+    Ok(())
+}
+
+#[test]
+fn the_last_blocks_hold_what_fits(rt: HostRuntime) -> Result<(), Fail> {
+    let mut wrong = String::new(rt.alloc());
+    for (middle, deepest, refused) in IN_BLOCKS.iter() {
+        let frame = Frame {
+            before: "void f(void) {",
+            middle,
+            behind: "}",
+        };
+        differences(
+            rt.alloc(),
+            &mut wrong,
+            frame,
+            ("{", "}"),
+            *deepest,
+            Some(*refused),
+        )?;
+    }
     assert_eq!(rt; wrong.as_str(), "");
     Ok(())
 }

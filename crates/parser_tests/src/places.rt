@@ -4,7 +4,7 @@ use crate::reading::{Row, View, check};
 use std::alloc::AllocError;
 
 /// Before each node that has tokens stands `@NUMBER:LINE`.
-static PLACES: [Row; 8] = [
+static PLACES: [Row; 9] = [
     (
         "int\n*p\n=\n&x;",
         "@0:1 (declare @0:1 [@0:1 int] @1:2 (= @1:2 (* @2:2 p) @4:4 (& @5:4 x)))",
@@ -20,6 +20,11 @@ static PLACES: [Row; 8] = [
          [@3:1 (@3:1 [@3:1 int] @4:1 a) @6:2 (@6:2 [@6:2 size_t] @7:2 (* @8:2 b))])) \
          @11:3 (define @11:3 [@11:3 void] @12:4 (function @12:4 g \
          [@14:4 (@14:4 [@14:4 (struct S)] -) @17:4 (@17:4 [@17:4 (enum E)] -)]) @20:4 (block))",
+    ),
+    (
+        "static\nconst int\n(*p)\n[2] = {\nsizeof\nq };",
+        "@0:1 (declare @0:1 [@0:1 static @1:2 const @2:2 int] @3:3 (= @3:3 (array @3:3 (paren @4:3 (* @5:3 p)) @8:4 2) \
+         @11:4 {@12:5 (sizeof @13:6 q)}))",
     ),
     // an expression that begins with its left operand has the place of that
     (

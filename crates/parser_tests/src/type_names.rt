@@ -101,7 +101,7 @@ static TYPE_NAMES: [Row; 42] = [
 ];
 
 /// Tokens that cannot stand there.
-static REFUSED: [Row; 41] = [
+static REFUSED: [Row; 46] = [
     ("", "token 0"),
     ("x", "token 0"),
     ("1", "token 0"),
@@ -120,6 +120,11 @@ static REFUSED: [Row; 41] = [
     ("T int", "token 1"),
     ("int T", "token 1"),
     ("int struct S", "token 1"),
+    ("int struct", "token 1"),
+    ("T union {", "token 1"),
+    ("unsigned enum", "token 1"),
+    ("struct S union", "token 2"),
+    ("const enum", "token 2"),
     ("const", "token 1"),
     ("const x", "token 1"),
     ("struct", "token 1"),

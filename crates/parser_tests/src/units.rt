@@ -3,7 +3,7 @@
 use crate::reading::{Row, View, check};
 use std::alloc::AllocError;
 
-static DECLARATIONS: [Row; 40] = [
+static DECLARATIONS: [Row; 42] = [
     ("", ""),
     ("int x;", "(declare [int] x)"),
     ("int;", "(declare [int])"),
@@ -124,6 +124,15 @@ static DECLARATIONS: [Row; 40] = [
         "int f(const char *, int (*)(int), int [2]);",
         "(declare [int] (function f [([const char] (* -)) ([int] (function (paren (* -)) [([int] -)])) ([int] (array - 2))]))",
     ),
+    // `void` alone is no parameter, and beside others it is one
+    (
+        "int f(void, int), g(const void), h(void *);",
+        "(declare [int] (function f [([void] -) ([int] -)]) (function g [([const void] -)]) (function h [([void] (* -))]))",
+    ),
+    (
+        "int f(int (x), int ((*y)), int (int));",
+        "(declare [int] (function f [([int] (paren x)) ([int] (paren (paren (* y)))) ([int] (function - [([int] -)]))]))",
+    ),
     (
         "void f(register int a[], struct S *(*b)[3]);",
         "(declare [void] (function f [([register int] (array a)) ([(struct S)] (* (array (paren (* b)) 3)))]))",
@@ -143,7 +152,7 @@ static DECLARATIONS: [Row; 40] = [
 ];
 
 /// Names of types, hidden and back again (C11 6.2.1).
-static HIDDEN: [Row; 22] = [
+static HIDDEN: [Row; 30] = [
     (
         "int typedef T; T x;",
         "(declare [int typedef] T) (declare [T] x)",
@@ -227,6 +236,41 @@ static HIDDEN: [Row; 22] = [
         "typedef int T; void f(void) { for (int T = 0;;) T; T x; }",
         "(declare [typedef int] T) (define [void] (function f []) (block (for (declare [int] (= T 0)) - - (; T)) (declare [T] x)))",
     ),
+    // each statement with parts is a scope, and so is each of its parts (C11 6.8.4p3, 6.8.5p5); another statement is none
+    (
+        "typedef int T; void f(void) { if (1) sizeof(enum { T }); else sizeof(T); }",
+        "(declare [typedef int] T) (define [void] (function f []) (block (if 1 (; (sizeof-type (type [(enum - [T])] -))) (; (sizeof-type (type [T] -))))))",
+    ),
+    (
+        "typedef int T; void f(void) { while (sizeof(enum { T })) T; T x; }",
+        "(declare [typedef int] T) (define [void] (function f []) (block (while (sizeof-type (type [(enum - [T])] -)) (; T)) (declare [T] x)))",
+    ),
+    (
+        "typedef int T; void f(void) { do sizeof(enum { T }); while (sizeof(T)); T x; }",
+        "(declare [typedef int] T) (define [void] (function f []) (block (do (; (sizeof-type (type [(enum - [T])] -))) (sizeof-type (type [T] -))) (declare [T] x)))",
+    ),
+    (
+        "typedef int T; void f(void) { for (; sizeof(enum { T }); T) T; T x; }",
+        "(declare [typedef int] T) (define [void] (function f []) (block (for - (sizeof-type (type [(enum - [T])] -)) T (; T)) (declare [T] x)))",
+    ),
+    (
+        "typedef int T; void f(void) { switch (sizeof(enum { T })) { case 0: T; } T x; }",
+        "(declare [typedef int] T) (define [void] (function f []) (block (switch (sizeof-type (type [(enum - [T])] -)) (block (case 0) (; T))) (declare [T] x)))",
+    ),
+    (
+        "typedef int T; void f(void) { sizeof(enum { T }); T; }",
+        "(declare [typedef int] T) (define [void] (function f []) (block (; (sizeof-type (type [(enum - [T])] -))) (; T)))",
+    ),
+    // what is hidden begins no cast and no name of a type
+    (
+        "typedef int T; void f(void) { int T; (T)-1; sizeof(T); }",
+        "(declare [typedef int] T) (define [void] (function f []) (block (declare [int] T) (; (- (paren T) 1)) (; (sizeof (paren T)))))",
+    ),
+    // parameters end with their list
+    (
+        "typedef int T; int (*f(int T))[sizeof(T)];",
+        "(declare [typedef int] T) (declare [int] (array (paren (* (function f [([int] T)]))) (sizeof-type (type [T] -))))",
+    ),
     (
         "int T; void f(void) { typedef char T; T x; } int y = T;",
         "(declare [int] T) (define [void] (function f []) (block (declare [typedef char] T) (declare [T] x))) (declare [int] (= y T))",
@@ -238,7 +282,7 @@ static HIDDEN: [Row; 22] = [
 ];
 
 /// Tokens that cannot stand there.
-static REFUSED: [Row; 56] = [
+static REFUSED: [Row; 65] = [
     (";", "token 0"),
     ("x;", "token 0"),
     ("const x;", "token 1"),
@@ -288,6 +332,16 @@ static REFUSED: [Row; 56] = [
     ("struct { int (); };", "token 4"),
     ("struct { int f(void) { } };", "token 7"),
     ("union;", "token 1"),
+    // a type behind a type
+    ("int struct;", "token 1"),
+    ("int union { int a; } x;", "token 1"),
+    ("long enum = 1;", "token 1"),
+    ("struct S enum;", "token 2"),
+    ("enum { A } union", "token 4"),
+    ("typedef int T; T struct;", "token 5"),
+    ("short long struct S x;", "token 1"),
+    ("long long struct;", "token 2"),
+    ("const struct;", "token 2"),
     ("enum;", "token 1"),
     ("enum E { };", "token 3"),
     ("enum { A B };", "token 3"),

@@ -5,8 +5,8 @@ use Rattle.c_tokens.specs.declared.kind.Mark.TheVariants as mark
 use Rattle.grammar_descent.specs.AllReaders.{readers}
 use Rattle.grammar_descent.specs.Reading.{mark_at}
 use Rattle.grammar_descent.specs.InitialiserSteps as step
-use Rattle.c_parser.specs.Uses.{as_use}
-use Rattle.c_parser.proofs.Turns.{one_more, no_more}
+use Rattle.token_reader.specs.Uses.{as_use}
+use Rattle.token_reader.proofs.Turns.{one_more, no_more}
 use Rattle.c_parser.proofs.DeclarationSteps as s
 use Rattle.c_parser.proofs.declarations.others.Goals as goal
 

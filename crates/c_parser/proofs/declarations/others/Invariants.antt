@@ -1,7 +1,7 @@
 use Rattle.std.proofs.Common.{◌≡◌, ◌-◌, ◌∷◌, length, []}
 use Rattle.grammar_descent.specs.AllReaders.{readers}
 use Rattle.grammar_descent.specs.InitialiserSteps as step
-use Rattle.c_parser.specs.Uses.{as_use}
+use Rattle.token_reader.specs.Uses.{as_use}
 use Rattle.c_parser.proofs.declarations.others.Given as goal
 
 abbrev pub invariant-loop-turn : goal.invariant-loop-turn

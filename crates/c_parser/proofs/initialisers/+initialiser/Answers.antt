@@ -3,8 +3,10 @@ use Rattle.std.proofs.lemmas.Grind.{common_steps}
 use Rattle.grammar_descent.specs.AllReaders.{readers}
 use Rattle.grammar_descent.specs.InitialiserSteps as step
 use Rattle.c_parser.specs.Closing.{closed}
-use Rattle.c_parser.proofs.Turns.{one_more, no_more}
-use Rattle.c_parser.proofs.Reading.{found, none}
+use Rattle.token_reader.specs.Input.{Reads}
+use Rattle.token_reader.proofs.Turns.{one_more, no_more}
+use Rattle.token_reader.proofs.Reading.{found, none}
+use Rattle.token_reader.proofs.Refusals.{same_reads}
 use Rattle.c_parser.proofs.InitialiserSteps as s
 use Rattle.c_parser.proofs.initialisers.+initialiser.Goals as goal
 
@@ -19,11 +21,13 @@ pub initialiser-returns-else-depth-eq0 : goal.initialiser-returns-else-depth-eq0
 initialiser-returns-else-depth-eq0 t c =
     let text = c.args.reader.now.text in
     let ts = c.args.reader.now.tokens in
-    record {
-      answer = rw (s.initialiser-braces ts (readers text ts) c.args.depth c.args.reader.now.state (sym c.sees_mark.ensures.value ∙ c.if-sees_mark.true) (omega arith)) c.braces.ensures.answer;
-      text = c.braces.ensures.text;
-      tokens = c.braces.ensures.tokens;
-    }
+    let e = s.initialiser-braces ts (readers text ts) c.args.depth c.args.reader.now.state (sym c.sees_mark.ensures.value ∙ c.if-sees_mark.true) (omega arith) in
+    let read : Reads (λ text ts. step.initialiser ts (readers text ts) c.args.depth) c.args.reader.now c.braces-found.result c.braces-found.new.reader = record {
+      answer = rw e c.braces-found.ensures.answer;
+      text = c.braces-found.ensures.text;
+      tokens = c.braces-found.ensures.tokens;
+    } in
+    same_reads (λ text ts. step.initialiser ts (readers text ts) c.args.depth) c.args.reader.now c.braces-found.new.reader c.braces-found.result c.refused_at.result c.refused_at.ensures read
 
 pub initialiser-returns-else-sees_mark : goal.initialiser-returns-else-sees_mark
 initialiser-returns-else-sees_mark t c =

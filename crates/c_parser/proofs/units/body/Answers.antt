@@ -3,8 +3,8 @@ use Rattle.std.proofs.lemmas.Grind.{common_steps}
 use Rattle.c_grammar.specs.Units.{max_depth}
 use Rattle.grammar_descent.specs.AllReaders.{readers}
 use Rattle.grammar_descent.specs.StatementSteps as step
-use Rattle.c_parser.specs.Input.{Input}
-use Rattle.c_parser.proofs.Reading.{found}
+use Rattle.token_reader.specs.Input.{Input}
+use Rattle.token_reader.proofs.Reading.{found}
 use Rattle.c_parser.proofs.UnitSteps.{after_function}
 use Rattle.c_parser.proofs.units.body.Goals as goal
 

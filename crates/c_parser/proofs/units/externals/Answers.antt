@@ -2,8 +2,8 @@ use Rattle.std.proofs.Common.{◌≡◌, ◌+◌, ◌-◌, ◌==◌, true, false
 use Rattle.std.proofs.lemmas.Grind.{common_steps}
 use Rattle.grammar_descent.specs.AllReaders.{readers}
 use Rattle.grammar_descent.specs.UnitSteps as step
-use Rattle.c_parser.proofs.Turns.{one_more, no_more}
-use Rattle.c_parser.proofs.Reading.{found, none}
+use Rattle.token_reader.proofs.Turns.{one_more, no_more}
+use Rattle.token_reader.proofs.Reading.{found, none}
 use Rattle.c_parser.proofs.UnitSteps as s
 use Rattle.c_parser.proofs.units.externals.Goals as goal
 

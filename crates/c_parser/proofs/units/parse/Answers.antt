@@ -2,7 +2,7 @@ use Rattle.std.proofs.Common.{rules, ◌≡◌, arith}
 use Rattle.std.proofs.lemmas.Grind.{common_steps}
 use Rattle.c_grammar.specs.Units.{Derives}
 use Rattle.grammar_descent.specs.AllReaders.{read_unit}
-use Rattle.c_parser.specs.declared.error.ParseError.TheVariants.{Syntax}
+use Rattle.token_reader.specs.declared.error.ParseError.TheVariants.{Syntax}
 use Rattle.c_parser.proofs.UnitLaws.{only_unit, memory_unit, none_unit}
 use Rattle.c_parser.proofs.units.parse.Goals as goal
 

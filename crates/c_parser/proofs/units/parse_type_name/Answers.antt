@@ -2,7 +2,7 @@ use Rattle.std.proofs.Common.{rules, ◌≡◌, arith}
 use Rattle.std.proofs.lemmas.Grind.{common_steps}
 use Rattle.c_grammar.specs.Units.{DerivesTypeName}
 use Rattle.grammar_descent.specs.AllReaders.{read_type_name}
-use Rattle.c_parser.specs.declared.error.ParseError.TheVariants.{Syntax}
+use Rattle.token_reader.specs.declared.error.ParseError.TheVariants.{Syntax}
 use Rattle.c_parser.proofs.UnitLaws.{only_one, only_memory, none_has}
 use Rattle.c_parser.proofs.units.parse_type_name.Goals as goal
 

@@ -3,7 +3,7 @@ use Rattle.c_grammar.specs.declared.units.External.{External}
 use Rattle.grammar_descent.specs.AllReaders.{readers}
 use Rattle.grammar_descent.specs.UnitSteps as step
 use Rattle.c_parser.specs.Answers.{Answers}
-use Rattle.c_parser.specs.Input.{Input}
+use Rattle.token_reader.specs.Input.{Input}
 use Rattle.c_parser.proofs.units.unit_items.Goals as goal
 
 pub returns : goal.returns

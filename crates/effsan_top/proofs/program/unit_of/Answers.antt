@@ -1,8 +1,8 @@
 use Rattle.std.proofs.Common.{Err, rules}
 use Rattle.std.specs.Prelude.{IsErrOf}
 use Rattle.c_grammar.specs.declared.units.Unit.{Unit as Tree}
-use Rattle.c_parser.specs.declared.error.ParseError.{ParseError}
-use Rattle.c_parser.specs.declared.error.ParseError.TheVariants.{Syntax}
+use Rattle.token_reader.specs.declared.error.ParseError.{ParseError}
+use Rattle.token_reader.specs.declared.error.ParseError.TheVariants.{Syntax}
 use Rattle.effsan_top.proofs.Readings.{no_unit}
 use Rattle.effsan_top.proofs.program.unit_of.Goals as goal
 

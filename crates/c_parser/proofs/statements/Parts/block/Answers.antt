@@ -2,8 +2,8 @@ use Rattle.std.proofs.Common.{ap, length, [], rules, arith}
 use Rattle.std.proofs.lemmas.Grind.{common_steps}
 use Rattle.grammar_descent.specs.AllReaders.{readers}
 use Rattle.grammar_descent.specs.StatementSteps as step
-use Rattle.c_parser.specs.Input.{Input}
-use Rattle.c_parser.proofs.Reading.{found}
+use Rattle.token_reader.specs.Input.{Input}
+use Rattle.token_reader.proofs.Reading.{found}
 use Rattle.c_parser.proofs.Closings.{after_items}
 use Rattle.c_parser.proofs.statements.Parts.block.Goals as goal
 

@@ -3,7 +3,7 @@ use Rattle.std.proofs.lemmas.Grind.{common_steps}
 use Rattle.grammar_descent.specs.AllReaders.{readers}
 use Rattle.grammar_descent.specs.StatementSteps as step
 use Rattle.c_parser.specs.ForHeader as h
-use Rattle.c_parser.proofs.Reading.{found, none}
+use Rattle.token_reader.proofs.Reading.{found, none}
 use Rattle.c_parser.proofs.StatementSteps.{counted-headless, counted-none, counted-found}
 use Rattle.c_parser.proofs.Closings.{after_loop}
 use Rattle.c_parser.proofs.statements.Parts.counted.Goals as goal

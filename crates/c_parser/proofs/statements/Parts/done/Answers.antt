@@ -5,8 +5,8 @@ use Rattle.grammar_descent.specs.AllReaders.{readers}
 use Rattle.grammar_descent.specs.Reading.{State, past, word_at}
 use Rattle.grammar_descent.specs.StatementSteps as step
 use Rattle.grammar_descent.specs.StatementSteps.{back}
-use Rattle.c_parser.specs.Input.{Input}
-use Rattle.c_parser.proofs.Reading.{found, none}
+use Rattle.token_reader.specs.Input.{Input}
+use Rattle.token_reader.proofs.Reading.{found, none}
 use Rattle.c_parser.proofs.StatementSteps.{done-testless, done-open, done-found}
 use Rattle.c_parser.proofs.Closings.{after_statement, after_condition}
 use Rattle.c_parser.proofs.statements.Parts.done.Goals as goal

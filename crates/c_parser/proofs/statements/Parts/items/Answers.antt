@@ -5,8 +5,8 @@ use Rattle.c_tokens.specs.declared.kind.Mark.TheVariants as mark
 use Rattle.grammar_descent.specs.AllReaders.{readers}
 use Rattle.grammar_descent.specs.Reading.{mark_at}
 use Rattle.grammar_descent.specs.StatementSteps as step
-use Rattle.c_parser.proofs.Turns.{one_more, no_more}
-use Rattle.c_parser.proofs.Reading.{found, none}
+use Rattle.token_reader.proofs.Turns.{one_more, no_more}
+use Rattle.token_reader.proofs.Reading.{found, none}
 use Rattle.c_parser.proofs.StatementSteps as s
 use Rattle.c_parser.proofs.statements.Parts.items.Goals as goal
 

@@ -2,7 +2,7 @@ use Rattle.std.proofs.Common.{refl, rules, arith}
 use Rattle.std.proofs.lemmas.Grind.{common_steps}
 use Rattle.grammar_descent.specs.AllReaders.{readers}
 use Rattle.grammar_descent.specs.StatementSteps as step
-use Rattle.c_parser.proofs.Reading.{found}
+use Rattle.token_reader.proofs.Reading.{found}
 use Rattle.c_parser.proofs.Closings.{after_body}
 use Rattle.c_parser.proofs.statements.Parts.repeated.Goals as goal
 

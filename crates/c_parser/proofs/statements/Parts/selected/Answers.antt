@@ -5,7 +5,7 @@ use Rattle.grammar_descent.specs.AllReaders.{readers}
 use Rattle.grammar_descent.specs.Reading.{State, past, word_at}
 use Rattle.grammar_descent.specs.StatementSteps as step
 use Rattle.grammar_descent.specs.StatementSteps.{back}
-use Rattle.c_parser.proofs.Reading.{found, none}
+use Rattle.token_reader.proofs.Reading.{found, none}
 use Rattle.c_parser.proofs.StatementSteps.{selected-none, selected-both}
 use Rattle.c_parser.proofs.Closings.{after_statement, after_body}
 use Rattle.c_parser.proofs.statements.Parts.selected.Goals as goal

@@ -1,6 +1,0 @@
-use Rattle.std.proofs.Common.{◌≡◌, ◌++◌, take}
-use Rattle.std.specs.Prelude.{reverse}
-use Rattle.c_parser.proofs.scope.Scope.declare_all.Given as goal
-
-abbrev pub invariant-loop-i : goal.invariant-loop-i
-invariant-loop-i l = l.self ≡ reverse (take l.i (reverse l.own)) ++ l.fn.self

@@ -1,8 +1,0 @@
-use Rattle.std.proofs.Common.{◌≡◌, drop, take, map}
-use Rattle.std.specs.Prelude.{reverse}
-use Rattle.std.specs.List.{zip}
-use Rattle.c_parser.specs.Uses.{as_use}
-use Rattle.c_parser.proofs.scope.Scope.since.Given as goal
-
-abbrev pub invariant-loop-place : goal.invariant-loop-place
-invariant-loop-place l = l.own ≡ reverse (drop l.count (take l.place (zip l.self-inside.names (map as_use l.self-inside.uses.items))))

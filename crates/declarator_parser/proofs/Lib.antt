@@ -1,0 +1,6 @@
+pub mod Depths
+pub mod Parts
+pub mod ListSteps
+pub mod RoleCounts
+pub mod SpecifierLoop
+pub mod SpecifierRefusals

@@ -1,0 +1,14 @@
+use Rattle.std.proofs.Common.{◌≡◌, ◌-◌, [], length}
+use Rattle.grammar_descent.specs.AllReaders.{readers}
+use Rattle.grammar_descent.specs.SpecifierSteps.{specifiers}
+use Rattle.declarator_parser.specs.Below.{below}
+use Rattle.declarator_parser.specs.Roles.{roles_of}
+use Rattle.declarator_parser.proofs.declaring.Declaring.specifiers.Given as goal
+
+abbrev pub invariant-loop-turn : goal.invariant-loop-turn
+invariant-loop-turn g l = record {
+  rest : specifiers l.fn.reader.text l.fn.reader.tokens (readers l.fn.reader.text l.fn.reader.tokens l.self.depth).expression (below l.fn.reader.text l.fn.reader.tokens l.self.depth) (length l.fn.reader.tokens) [] [] 0 l.fn.reader.state
+      ≡ specifiers l.fn.reader.text l.fn.reader.tokens (readers l.fn.reader.text l.fn.reader.tokens l.self.depth).expression (below l.fn.reader.text l.fn.reader.tokens l.self.depth) (l._turn-end - l._turn) (roles_of l.found) l.found l.high l.reader.state;
+  text : l.reader.text ≡ l.fn.reader.text;
+  tokens : l.reader.tokens ≡ l.fn.reader.tokens;
+}

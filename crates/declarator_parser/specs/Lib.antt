@@ -1,0 +1,6 @@
+pub mod Below
+pub mod Roles
+pub mod Parts
+pub mod Leads
+pub mod Lists
+pub mod WithRoles

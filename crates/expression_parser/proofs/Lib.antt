@@ -1,0 +1,3 @@
+pub mod Shallow
+pub mod TypeNames
+pub mod Operands

@@ -1,0 +1,12 @@
+//! The parser of expressions (C11 6.5), over parsers of what is nested in them.
+#![tactic(auto)]
+
+mod expressions;
+mod growing;
+mod growths;
+mod heads;
+mod inner;
+mod nodes;
+mod operators;
+
+pub use inner::Inner;

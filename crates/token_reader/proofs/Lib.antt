@@ -1,0 +1,4 @@
+pub mod ScopeLemmas
+pub mod Turns
+pub mod Reading
+pub mod Refusals

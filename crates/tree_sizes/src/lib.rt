@@ -1,0 +1,6 @@
+//! How many nodes a tree of the grammar has.
+#![tactic(auto)]
+
+mod laws;
+
+pub use laws::law_sizes;
