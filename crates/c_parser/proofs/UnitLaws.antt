@@ -1,5 +1,5 @@
 -- What is found is what is derived, and nothing else.
-use Rattle.std.proofs.Common.{◌≡◌, ◌↔◌, ℕ, List, Option, Some, Err, refl, ap, alloc_error}
+use Rattle.std.proofs.Common.{◌≡◌, ◌≤◌, ◌+◌, ◌*◌, ◌↔◌, ℕ, List, Option, Some, Err, refl, ap, alloc_error, arith}
 use Rattle.c_grammar.specs.declared.units.External.{External}
 use Rattle.c_grammar.specs.declared.units.Unit.{Unit as Tree}
 use Rattle.token_reader.specs.declared.error.ParseError.{ParseError}
@@ -32,3 +32,7 @@ module _ (answer : Option (List External)) (Has : Tree → Type 0) (law : (x : T
 
   pub none_unit : (e : ParseError) → Answers {A = List External} (Err e) answer → (at : ℕ) → e ≡ Syntax at → (unit : Tree) → Has unit → ⊥
   none_unit e h at is unit has = let other : answer ≡ Some unit.items = (law unit).1 has in let none = h at is in absurd cc
+
+-- so many tokens have few nodes
+pub few_nodes : (nodes tokens : ℕ) → nodes ≤ 2 * tokens + 1 → tokens ≤ 200000 → nodes ≤ 2000000
+few_nodes nodes tokens bound few = omega arith
