@@ -1,6 +1,6 @@
 //! Directives and macros, as the program reads them.
 
-use crate::tools::{Refused, check_refused, play};
+use crate::tools::{Refused, check_refusal, check_refused, play};
 use std::alloc::{AllocError, Global};
 use std::process::Abort;
 use std::test::Fail;
@@ -148,17 +148,20 @@ fn long_names(alloc: Global, uses: u32) -> Result<String, AllocError> {
     Ok(source)
 }
 
+/// The text is refused for want of memory.
+fn check_out_of_memory(rt: &impl Abort, alloc: Global, source: &str) -> Result<(), AllocError> {
+    let left = play(alloc, source.as_bytes())?;
+    assert_eq!(rt; left.err.as_slice(), b"effsan: out of memory\n".as_slice());
+    assert_eq!(rt; left.status, 6);
+    Ok(())
+}
+
 #[test]
 fn names_that_macros_repeat_to_more_than_16_mib_are_want_of_memory(
     rt: HostRuntime,
 ) -> Result<(), AllocError> {
-    let source = long_names(rt.alloc(), 41)?;
-    let left = play(rt.alloc(), source.as_bytes())?;
-    assert_eq!(rt; left.status, 3);
-    assert_eq!(rt; left.err.as_slice(), b"effsan: line 2: NotYet\n".as_slice());
-    let source = long_names(rt.alloc(), 42)?;
-    let left = play(rt.alloc(), source.as_bytes())?;
-    assert_eq!(rt; left.status, 6);
-    assert_eq!(rt; left.err.as_slice(), b"effsan: out of memory\n".as_slice());
-    Ok(())
+    let fits = long_names(rt.alloc(), 41)?;
+    check_refusal(&rt, rt.alloc(), fits.as_str(), "line 2: NotYet")?;
+    let exceeds = long_names(rt.alloc(), 42)?;
+    check_out_of_memory(&rt, rt.alloc(), exceeds.as_str())
 }
