@@ -10,7 +10,7 @@ use Rattle.c_tokens.specs.Words.{keywords, marks, Among}
 use Rattle.c_lexer.specs.declared.numbers.Suffix.{Suffix}
 use Rattle.c_lexer.specs.Bytes.{Text, Each, first_passes, is_letter, is_digit, is_octal, is_hexadecimal, is_word, is_blank, is_line_end, is_quote, is_x}
 use Rattle.c_lexer.specs.Numbers.{suffixes}
-use Rattle.c_lexer.proofs.Tables.{both}
+use Rattle.c_lexer.proofs.TableLemmas.{both}
 
 -- ---- runs of bytes
 

@@ -31,7 +31,7 @@ comment_reaches star (b ∷ body) after s h =
     let e : suc (length body + 2) ≡ suc (length body) + 2 = omega arith in
     rw s (ap (option_map suc) (comment_reaches (b == 42) body after here later) ∙ ap Some e)
 
--- what a length that is found says: the slash behind a star that stood before, or a whole end
+-- what a length that is found says: the slash after a star that stood before, or a whole end
 pub record Ends (star : Bool) (s : Text) (n : ℕ) (body : Text) : Type 0 where
   pub text : take n s ≡ body ++ 42 ∷ 47 ∷ []
   pub len : n ≡ length body + 2

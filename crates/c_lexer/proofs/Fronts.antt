@@ -15,8 +15,8 @@ use Rattle.c_lexer.specs.declared.lexeme.Fault.TheVariants.{OpenString}
 use Rattle.c_lexer.specs.Bytes.{Text, Each, first_passes, is_letter, is_digit, is_word, is_blank, is_line_end, is_quote}
 use Rattle.c_lexer.specs.Escapes.{Inside, Means, string, bad_string, character, bad_character}
 use Rattle.c_lexer.specs.Words.{Spells, keyword, name, quoted, open_quote, no_line_end}
-use Rattle.c_lexer.specs.Scan.{entry_of, kind_of, word_at, number_at, closing, meaning, quoted_to, quoted_at, comment_len, comment_to, sign_at, front_at, Piece}
-use Rattle.c_lexer.proofs.Tables.{one_entry, bytes_same, bytes_self}
+use Rattle.c_lexer.specs.Scan.{entry_of, kind_of, word_at, number_at, closing_quote, meaning, quotation_to, quotation_at, comment_len, comment_to, sign_at, front_at, Piece}
+use Rattle.c_lexer.proofs.TableLemmas.{one_entry, bytes_same, bytes_self}
 use Rattle.c_lexer.proofs.Classes.{run_each, run_longest, run_some, is_sign, sign_apart, quote_is, blank_apart, front_first, no_letter}
 use Rattle.c_lexer.proofs.Units.{inside_ends, closed, means_complete, means_string, means_character}
 use Rattle.c_lexer.proofs.Numerals.{IsPiece}
@@ -49,7 +49,7 @@ unfolding front_at
 front_sign [] h = absurd cc
 front_sign (b ∷ s) h = let a = sign_apart b h in let l = a.letter in let d = a.digit in let q = a.quote in let w = a.blank in rw (l, d, q, w) refl
 
-pub front_quote : (quote : ℕ) (s : Text) → is_quote quote ≡ true → front_at (quote ∷ s) ≡ Some (quoted_at quote s)
+pub front_quote : (quote : ℕ) (s : Text) → is_quote quote ≡ true → front_at (quote ∷ s) ≡ Some (quotation_at quote s)
 unfolding front_at
 front_quote quote s h = elim (quote_is quote h) [
   | inl double ↦ rw double refl
@@ -154,42 +154,42 @@ quote_apart quote h = elim (quote_is quote h) [
 
 pub quoted_covers : (quote : ℕ) (body after : Text) (lexeme : Lexeme) → Inside quote body → Means quote body lexeme →
     Covers ((quote ∷ body ++ quote ∷ []) ++ after) (length (quote ∷ body ++ quote ∷ [])) lexeme
-unfolding quoted_at
+unfolding quotation_at
 quoted_covers quote body after lexeme i m =
     let q = quote_apart quote (quote_of m) in
     let s : Text = (body ++ quote ∷ []) ++ after in
     let text : (body ++ quote ∷ []) ++ after ≡ body ++ quote ∷ after = append_assoc body (quote ∷ []) after in
-    let ends : closing quote false ((body ++ quote ∷ []) ++ after) ≡ Some (length body) = ap (closing quote false) text ∙ inside_ends quote body after q.no_backslash q.no_line i in
+    let ends : closing_quote quote false ((body ++ quote ∷ []) ++ after) ≡ Some (length body) = ap (closing_quote quote false) text ∙ inside_ends quote body after q.no_backslash q.no_line i in
     let front : take (length body) ((body ++ quote ∷ []) ++ after) ≡ body = ap (take (length body)) text ∙ take-append_seam body (quote ∷ after) in
     let len : length (quote ∷ body ++ quote ∷ []) ≡ length body + 2 = omega (arith, length-append (quote ∷ body) (quote ∷ [])) in
     record {
       other = (meaning quote (take (length body) ((body ++ quote ∷ []) ++ after)), length body + 2);
-      found = front_quote quote ((body ++ quote ∷ []) ++ after) (quote_of m) ∙ ap (λ o. Some (quoted_to quote ((body ++ quote ∷ []) ++ after) o)) ends;
+      found = front_quote quote ((body ++ quote ∷ []) ++ after) (quote_of m) ∙ ap (λ o. Some (quotation_to quote ((body ++ quote ∷ []) ++ after) o)) ends;
       high = omega arith;
       same = λ same. ap (meaning quote) front ∙ means_complete m;
     }
 
 pub open_covers : (quote : ℕ) (after : Text) → is_quote quote ≡ true → Covers (quote ∷ after) 1 (Faulty OpenString)
-unfolding quoted_at
-open_covers quote after q = at_end (closing quote false after) refl
+unfolding quotation_at
+open_covers quote after q = at_end (closing_quote quote false after) refl
   where
-    at_end : (found : Option ℕ) → closing quote false after ≡ found → Covers (quote ∷ after) 1 (Faulty OpenString)
+    at_end : (found : Option ℕ) → closing_quote quote false after ≡ found → Covers (quote ∷ after) 1 (Faulty OpenString)
     at_end (Some n) is = record {
       other = (meaning quote (take n after), n + 2);
-      found = front_quote quote after q ∙ ap (λ o. Some (quoted_to quote after o)) is;
+      found = front_quote quote after q ∙ ap (λ o. Some (quotation_to quote after o)) is;
       high = omega arith;
       same = λ same. absurd (omega arith);
     }
     at_end None is = record {
       other = (Faulty OpenString, 1);
-      found = front_quote quote after q ∙ ap (λ o. Some (quoted_to quote after o)) is;
+      found = front_quote quote after q ∙ ap (λ o. Some (quotation_to quote after o)) is;
       high = omega arith;
       same = λ same. refl;
     }
 
-pub quoted_is : (quote : ℕ) (s : Text) → is_quote quote ≡ true → IsPiece (quote ∷ s) (quoted_at quote s)
-unfolding quoted_at
-quoted_is quote s q = at_end (closing quote false s) refl
+pub quoted_is : (quote : ℕ) (s : Text) → is_quote quote ≡ true → IsPiece (quote ∷ s) (quotation_at quote s)
+unfolding quotation_at
+quoted_is quote s q = at_end (closing_quote quote false s) refl
   where
     means : (body : Text) → Means quote body (meaning quote body)
     means body = elim (quote_is quote q) [
@@ -197,7 +197,7 @@ quoted_is quote s q = at_end (closing quote false s) refl
       | inr single ↦ rw single (means_character body)
     ]
 
-    at_end : (found : Option ℕ) → closing quote false s ≡ found → IsPiece (quote ∷ s) (quoted_to quote s found)
+    at_end : (found : Option ℕ) → closing_quote quote false s ≡ found → IsPiece (quote ∷ s) (quotation_to quote s found)
     at_end (Some n) is =
         let c = closed quote false s n is in
         let e : suc (suc n) ≡ n + 2 = omega arith in

@@ -2,13 +2,13 @@
 use Rattle.std.proofs.Common.{◌≡◌, ℕ, ◌+◌, ◌<◌, ◌≤◌, Bool, true, false, List, [], ◌∷◌, ◌++◌, length, get_or, drop, map, refl, sym, ap, subst, ◌∙◌, arith, append_assoc, append-nil, cond, length-append, inl, inr}
 use Rattle.std.proofs.lemmas.List.{drop_more, drop_all, length-map, get_or_append_left, get_or_at}
 use Rattle.std.proofs.lemmas.Bool.{cases_lt}
-use Rattle.c_lexer.specs.declared.joined.Place.{Place}
+use Rattle.c_lexer.specs.declared.joined.Origin.{Origin}
 use Rattle.c_lexer.specs.Bytes.{Text, is_line_end}
-use Rattle.c_lexer.specs.Joined.{joins, spots, joined, joined_bytes, joined_places}
-use Rattle.c_lexer.specs.Lexes.{place_at, AreSmall}
+use Rattle.c_lexer.specs.Joined.{joins, spots, text_spots, joined_bytes, joined_origins}
+use Rattle.c_lexer.specs.Lexes.{origin_at, AreSmall}
 
 abbrev pub Spot : Type 0
-Spot = ℕ × Place
+Spot = ℕ × Origin
 
 abbrev pub next_line : ℕ → ℕ → ℕ
 next_line line b = cond (is_line_end b) (line + 1) line
@@ -21,7 +21,7 @@ pub spots_dropped : (before at line b : ℕ) (s : Text) → joins before b s ≡
 unfolding spots
 spots_dropped before at line b s h = rw h refl
 
-pub spots_kept : (before at line b : ℕ) (s : Text) → joins before b s ≡ false → spots before at line (b ∷ s) ≡ (b, record { at = at; line = line }) ∷ spots b (at + 1) (next_line line b) s
+pub spots_kept : (before at line b : ℕ) (s : Text) → joins before b s ≡ false → spots before at line (b ∷ s) ≡ (b, record { offset = at; line = line }) ∷ spots b (at + 1) (next_line line b) s
 unfolding spots
 spots_kept before at line b s h = rw h refl
 
@@ -36,9 +36,9 @@ module _ {X : Type 0} (part : Spot → X) where
 
   pub kept_step : (all : List X) (before at line : ℕ) (text : Text) (whole : List X) → at < length text → joins before (get_or text at 0) (drop (at + 1) text) ≡ false →
       all ++ map part (spots before at line (drop at text)) ≡ whole →
-      (all ++ part (get_or text at 0, record { at = at; line = line }) ∷ []) ++ map part (spots (get_or text at 0) (at + 1) (next_line line (get_or text at 0)) (drop (at + 1) text)) ≡ whole
+      (all ++ part (get_or text at 0, record { offset = at; line = line }) ∷ []) ++ map part (spots (get_or text at 0) (at + 1) (next_line line (get_or text at 0)) (drop (at + 1) text)) ≡ whole
   kept_step all before at line text whole low h same =
-      append_assoc all (part (get_or text at 0, record { at = at; line = line }) ∷ []) _
+      append_assoc all (part (get_or text at 0, record { offset = at; line = line }) ∷ []) _
       ∙ ap (λ t. all ++ map part t) (sym (spots_kept before at line (get_or text at 0) (drop (at + 1) text) h) ∙ ap (spots before at line) (sym (drop_more text at 0 low))) ∙ same
 
   pub over_step : (all : List X) (before at line : ℕ) (text : Text) (whole : List X) → length text ≤ at → all ++ map part (spots before at line (drop at text)) ≡ whole → all ≡ whole
@@ -46,31 +46,31 @@ module _ {X : Type 0} (part : Spot → X) where
       sym (append-nil all) ∙ ap (λ t. all ++ map part t) (sym (ap (spots before at line) (drop_all at text high) ∙ spots_nil before at line)) ∙ same
 
 pub bytes_begin : (text : Text) → [] ++ map (λ (spot : Spot). spot.0) (spots 0 0 1 (drop 0 text)) ≡ joined_bytes text
-unfolding joined
+unfolding text_spots
 bytes_begin text = refl
 
-pub places_begin : (text : Text) → [] ++ map (λ (spot : Spot). spot.1) (spots 0 0 1 (drop 0 text)) ≡ joined_places text
-unfolding joined
-places_begin text = refl
+pub origins_begin : (text : Text) → [] ++ map (λ (spot : Spot). spot.1) (spots 0 0 1 (drop 0 text)) ≡ joined_origins text
+unfolding text_spots
+origins_begin text = refl
 
-pub small_later : (high : ℕ) (places : List Place) → AreSmall high places → AreSmall (high + 1) places
-small_later high places small k low = let s = small k low in omega arith
+pub small_later : (high : ℕ) (origins : List Origin) → AreSmall high origins → AreSmall (high + 1) origins
+small_later high origins small k low = let s = small k low in omega arith
 
-pub small_push : (high line : ℕ) (places : List Place) → AreSmall high places → AreSmall (high + 1) (places ++ record { at = high; line = line } ∷ [])
-small_push high line places small k low = elim (cases_lt k (length places)) [
+pub small_push : (high line : ℕ) (origins : List Origin) → AreSmall high origins → AreSmall (high + 1) (origins ++ record { offset = high; line = line } ∷ [])
+small_push high line origins small k low = elim (cases_lt k (length origins)) [
   | inl before ↦ (
-      let same : place_at (places ++ record { at = high; line = line } ∷ []) k ≡ place_at places k = get_or_append_left places (record { at = high; line = line } ∷ []) (record { at = 0; line = 0 }) k before in
+      let same : origin_at (origins ++ record { offset = high; line = line } ∷ []) k ≡ origin_at origins k = get_or_append_left origins (record { offset = high; line = line } ∷ []) (record { offset = 0; line = 0 }) k before in
       let s = small k before in
-      subst (λ (p : Place). p.at < high + 1) (sym same) (omega arith))
-  | inr behind ↦ (
-      let all = length-append places (record { at = high; line = line } ∷ []) in
-      let last : length places ≡ k = omega arith in
-      let same : place_at (places ++ record { at = high; line = line } ∷ []) k ≡ record { at = high; line = line } = get_or_at places (record { at = high; line = line }) [] (record { at = 0; line = 0 }) k last in
-      subst (λ (p : Place). p.at < high + 1) (sym same) (omega arith))
+      subst (λ (p : Origin). p.offset < high + 1) (sym same) (omega arith))
+  | inr past ↦ (
+      let all = length-append origins (record { offset = high; line = line } ∷ []) in
+      let last : length origins ≡ k = omega arith in
+      let same : origin_at (origins ++ record { offset = high; line = line } ∷ []) k ≡ record { offset = high; line = line } = get_or_at origins (record { offset = high; line = line }) [] (record { offset = 0; line = 0 }) k last in
+      subst (λ (p : Origin). p.offset < high + 1) (sym same) (omega arith))
 ]
 
-pub alike : (text : Text) → length (joined_bytes text) ≡ length (joined_places text)
-alike text = length-map (joined text) (λ (spot : Spot). spot.0) ∙ sym (length-map (joined text) (λ (spot : Spot). spot.1))
+pub alike : (text : Text) → length (joined_bytes text) ≡ length (joined_origins text)
+alike text = length-map (text_spots text) (λ (spot : Spot). spot.0) ∙ sym (length-map (text_spots text) (λ (spot : Spot). spot.1))
 
 pub next_low : (line b at : ℕ) → line ≤ at + 1 → next_line line b ≤ at + 1 + 1
 next_low line b at h = on_test (is_line_end b)

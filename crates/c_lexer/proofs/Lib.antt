@@ -1,5 +1,5 @@
 pub mod Runs
-pub mod Tables
+pub mod TableLemmas
 pub mod Classes
 pub mod Units
 pub mod Numerals
@@ -12,3 +12,4 @@ pub mod Joins
 pub mod Decodings
 pub mod Slices
 pub mod StringTokens
+pub mod NameTokens

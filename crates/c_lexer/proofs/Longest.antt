@@ -13,8 +13,8 @@ use Rattle.c_lexer.specs.Bytes.{Text, first_passes, is_letter, is_digit, is_blan
 use Rattle.c_lexer.specs.Numbers.{Numeral, decimal, octal, hexadecimal}
 use Rattle.c_lexer.specs.Words.{Spells, keyword, mark, name, number, quoted, open_quote, blank, comment, open_comment, line_comment, no_line_end}
 use Rattle.c_lexer.specs.Lexes.{IsFirst, HasNone}
-use Rattle.c_lexer.specs.Scan.{begins, first_match, word_at, number_at, quoted_at, comment_len, comment_to, sign_at, front_at, Piece, punctuator}
-use Rattle.c_lexer.proofs.Tables.{first_is, none_matches, one_entry, begins-front, front-begins, front_same}
+use Rattle.c_lexer.specs.Scan.{begins, first_match, word_at, number_at, quotation_at, comment_len, comment_to, sign_at, front_at, Piece, punctuator}
+use Rattle.c_lexer.proofs.TableLemmas.{first_is, none_matches, one_entry, begins-front, front-begins, front_same}
 use Rattle.c_lexer.proofs.Classes.{keyword_first, keyword_each, mark_first, is_sign, front_first, not_empty, chosen}
 use Rattle.c_lexer.proofs.Numerals.{number_covers, Numbers, number_is, IsPiece}
 use Rattle.c_lexer.proofs.Fronts.{Covers, front_digit, front_blank, front_sign, keyword_kind, name_kind, word_covers, word_is, quoted_covers, open_covers, quoted_is}
@@ -155,8 +155,8 @@ front_is (b ∷ s) p h = elim (chosen (is_letter b) (Some (word_at (b ∷ s))) _
   | inl c ↦ (let same : word_at (b ∷ s) ≡ p = (let e = c.1 in cc) in subst (λ q. IsPiece (b ∷ s) q) same (word_is (b ∷ s) c.0))
   | inr c ↦ elim (chosen (is_digit b) (Some (number_at (b ∷ s))) _ (Some p) c.1) [
     | inl d ↦ (let same : number_at (b ∷ s) ≡ p = (let e = d.1 in cc) in subst (λ q. IsPiece (b ∷ s) q) same (number_is (b ∷ s) d.0))
-    | inr d ↦ elim (chosen (is_quote b) (Some (quoted_at b s)) _ (Some p) d.1) [
-      | inl q ↦ (let same : quoted_at b s ≡ p = (let e = q.1 in cc) in subst (λ r. IsPiece (b ∷ s) r) same (quoted_is b s q.0))
+    | inr d ↦ elim (chosen (is_quote b) (Some (quotation_at b s)) _ (Some p) d.1) [
+      | inl q ↦ (let same : quotation_at b s ≡ p = (let e = q.1 in cc) in subst (λ r. IsPiece (b ∷ s) r) same (quoted_is b s q.0))
       | inr q ↦ elim (chosen (is_blank b) (Some (Gap, 1)) (sign_at (b ∷ s)) (Some p) q.1) [
         | inl w ↦ (
             let same : ◌≡◌ {A = Piece} (Gap, 1) p = (let e = w.1 in cc) in

@@ -6,11 +6,11 @@ use Rattle.c_tokens.specs.declared.kind.Kind.{Kind}
 use Rattle.c_tokens.specs.declared.token.Token.{Token}
 use Rattle.c_lexer.specs.declared.error.LexError.{LexError}
 use Rattle.c_lexer.specs.declared.error.LexError.TheVariants.{BadByte, TooManyTokens}
-use Rattle.c_lexer.specs.declared.joined.Place.{Place}
+use Rattle.c_lexer.specs.declared.joined.Origin.{Origin}
 use Rattle.c_lexer.specs.declared.lexeme.Lexeme.{Lexeme}
 use Rattle.c_lexer.specs.declared.lexeme.Lexeme.TheVariants.{Sound, Gap, Faulty}
 use Rattle.c_lexer.specs.Bytes.{Text, is_line_end}
-use Rattle.c_lexer.specs.Lexes.{IsFirst, place_at, token_at, refusal, Lexes, end, line, gap, token, Refuses, unknown, faulty, full}
+use Rattle.c_lexer.specs.Lexes.{IsFirst, origin_at, token_at, refusal, Lexes, end, line, gap, token, HasLexFault, unknown, faulty, full}
 use Rattle.c_lexer.specs.Scan.{sign_at, front_at, Piece}
 use Rattle.c_lexer.proofs.Longest.{front_is, found_first, first_found, none_found, found_none}
 
@@ -36,18 +36,18 @@ not_line b s p h = elim (cases_Bool (is_line_end b)) [
   | inr no_line ↦ no_line
 ]
 
-module _ (places : List Place) where
+module _ (origins : List Origin) where
   at_token : (ℕ → ℕ → Bool → Text → Outcome) → ℕ → ℕ → Bool → Text → Kind → ℕ → Outcome
-  at_token below zero at first s kind n = inr (TooManyTokens (place_at places at).at)
-  at_token below (suc room) at first s kind n = prepend (token_at places kind at n first) (below room (at + n) false (drop n s))
+  at_token below zero at first s kind n = inr (TooManyTokens (origin_at origins at).offset)
+  at_token below (suc room) at first s kind n = prepend (token_at origins kind at n first) (below room (at + n) false (drop n s))
 
   at_lexeme : (ℕ → ℕ → Bool → Text → Outcome) → ℕ → ℕ → Bool → Text → ℕ → Lexeme → Outcome
   at_lexeme below room at first s n (Sound kind) = at_token below room at first s kind n
   at_lexeme below room at first s n Gap = below room (at + n) first (drop n s)
-  at_lexeme below room at first s n (Faulty fault) = inr (refusal fault (place_at places at).at)
+  at_lexeme below room at first s n (Faulty fault) = inr (refusal fault (origin_at origins at).offset)
 
   at_front : (ℕ → ℕ → Bool → Text → Outcome) → ℕ → ℕ → Bool → Text → Option Piece → Outcome
-  at_front below room at first s None = inr (BadByte (place_at places at).at)
+  at_front below room at first s None = inr (BadByte (origin_at origins at).offset)
   at_front below room at first s (Some p) = at_lexeme below room at first s p.1 p.0
 
   at_byte : (ℕ → ℕ → Bool → Text → Outcome) → ℕ → ℕ → Bool → ℕ → Text → Outcome
@@ -75,7 +75,7 @@ module _ (places : List Place) where
   read_front fuel room at first (b ∷ s) p h = rw (not_line b s p h, h) refl
 
   read_none : (fuel room at b : ℕ) (first : Bool) (s : Text) → is_line_end b ≡ false → front_at (b ∷ s) ≡ None →
-      read (suc fuel) room at first (b ∷ s) ≡ inr (BadByte (place_at places at).at)
+      read (suc fuel) room at first (b ∷ s) ≡ inr (BadByte (origin_at origins at).offset)
   unfolding read at_byte at_front
   read_none fuel room at b first s goes_on h = rw (goes_on, h) refl
 
@@ -93,10 +93,10 @@ module _ (places : List Place) where
         omega arith),
   )
 
-  behind : (s word rest : Text) (lexeme : Lexeme) → IsFirst s word rest lexeme → drop (length word) s ≡ rest
-  behind s word rest lexeme f = ap (drop (length word)) f.text ∙ drop_at word rest (length word) refl
+  after_word : (s word rest : Text) (lexeme : Lexeme) → IsFirst s word rest lexeme → drop (length word) s ≡ rest
+  after_word s word rest lexeme f = ap (drop (length word)) f.text ∙ drop_at word rest (length word) refl
 
-  pub lexes_read : {room at : ℕ} {first : Bool} {s : Text} {ts : List Token} → Lexes places room at first s ts → (fuel : ℕ) → length s ≤ fuel → read fuel room at first s ≡ inl ts
+  pub lexes_read : {room at : ℕ} {first : Bool} {s : Text} {ts : List Token} → Lexes origins room at first s ts → (fuel : ℕ) → length s ≤ fuel → read fuel room at first s ≡ inl ts
   unfolding at_lexeme at_token prepend
   lexes_read {room = room} {at = at} {first = first} end fuel low = read_nil fuel room at first
   lexes_read (line d) zero low = absurd (omega arith)
@@ -104,14 +104,14 @@ module _ (places : List Place) where
   lexes_read {room = room} {at = at} {first = first} {s = s} (gap {rest = rest} word f d) fuel low =
       let (less, is, later) = some_fuel s word rest Gap fuel f low in
       ap (λ fuel. read fuel room at first s) is ∙ read_front less room at first s (Gap, length word) (first_found s word rest Gap f)
-      ∙ ap (read less room (at + length word) first) (behind s word rest Gap f) ∙ lexes_read d less later
+      ∙ ap (read less room (at + length word) first) (after_word s word rest Gap f) ∙ lexes_read d less later
   lexes_read {at = at} {first = first} {s = s} (token {room = room} {rest = rest} {ts = ts} word kind f d) fuel low =
       let (less, is, later) = some_fuel s word rest (Sound kind) fuel f low in
       ap (λ fuel. read fuel (suc room) at first s) is ∙ read_front less (suc room) at first s (Sound kind, length word) (first_found s word rest (Sound kind) f)
-      ∙ ap (λ t. prepend (token_at places kind at (length word) first) (read less room (at + length word) false t)) (behind s word rest (Sound kind) f)
-      ∙ ap (prepend (token_at places kind at (length word) first)) (lexes_read d less later)
+      ∙ ap (λ t. prepend (token_at origins kind at (length word) first) (read less room (at + length word) false t)) (after_word s word rest (Sound kind) f)
+      ∙ ap (prepend (token_at origins kind at (length word) first)) (lexes_read d less later)
 
-  pub refuses_read : {room at : ℕ} {s : Text} {e : LexError} → Refuses places room at s e → (first : Bool) (fuel : ℕ) → length s ≤ fuel → read fuel room at first s ≡ inr e
+  pub refuses_read : {room at : ℕ} {s : Text} {e : LexError} → HasLexFault origins room at s e → (first : Bool) (fuel : ℕ) → length s ≤ fuel → read fuel room at first s ≡ inr e
   unfolding at_lexeme at_token prepend
   refuses_read (unknown goes_on none) first zero low = absurd (omega arith)
   refuses_read {room = room} {at = at} (unknown {b = b} {s = s} goes_on none) first (suc fuel) low = read_none fuel room at b first s goes_on (found_none (b ∷ s) none)
@@ -126,61 +126,61 @@ module _ (places : List Place) where
   refuses_read {room = room} {at = at} {s = s} (gap {rest = rest} word f d) first fuel low =
       let (less, is, later) = some_fuel s word rest Gap fuel f low in
       ap (λ fuel. read fuel room at first s) is ∙ read_front less room at first s (Gap, length word) (first_found s word rest Gap f)
-      ∙ ap (read less room (at + length word) first) (behind s word rest Gap f) ∙ refuses_read d first less later
+      ∙ ap (read less room (at + length word) first) (after_word s word rest Gap f) ∙ refuses_read d first less later
   refuses_read {at = at} {s = s} (token {room = room} {rest = rest} word kind f d) first fuel low =
       let (less, is, later) = some_fuel s word rest (Sound kind) fuel f low in
       ap (λ fuel. read fuel (suc room) at first s) is ∙ read_front less (suc room) at first s (Sound kind, length word) (first_found s word rest (Sound kind) f)
-      ∙ ap (λ t. prepend (token_at places kind at (length word) first) (read less room (at + length word) false t)) (behind s word rest (Sound kind) f)
-      ∙ ap (prepend (token_at places kind at (length word) first)) (refuses_read d false less later)
+      ∙ ap (λ t. prepend (token_at origins kind at (length word) first) (read less room (at + length word) false t)) (after_word s word rest (Sound kind) f)
+      ∙ ap (prepend (token_at origins kind at (length word) first)) (refuses_read d false less later)
 
   -- ---- one reading
 
-  pub lexes_one : {room at : ℕ} {first : Bool} {s : Text} {ts us : List Token} → Lexes places room at first s ts → Lexes places room at first s us → ts ≡ us
+  pub lexes_one : {room at : ℕ} {first : Bool} {s : Text} {ts us : List Token} → Lexes origins room at first s ts → Lexes origins room at first s us → ts ≡ us
   lexes_one {s = s} a b = let x = lexes_read a (length s) (omega arith) in let y = lexes_read b (length s) (omega arith) in cc
 
-  pub not_both : {room at : ℕ} {first : Bool} {s : Text} {ts : List Token} {e : LexError} → Lexes places room at first s ts → Refuses places room at s e → ⊥
+  pub not_both : {room at : ℕ} {first : Bool} {s : Text} {ts : List Token} {e : LexError} → Lexes origins room at first s ts → HasLexFault origins room at s e → ⊥
   not_both {first = first} {s = s} a b = let x = lexes_read a (length s) (omega arith) in let y = refuses_read b first (length s) (omega arith) in cc
 
-  pub refuses_one : {room at : ℕ} {s : Text} {d e : LexError} → Refuses places room at s d → Refuses places room at s e → d ≡ e
+  pub refuses_one : {room at : ℕ} {s : Text} {d e : LexError} → HasLexFault origins room at s d → HasLexFault origins room at s e → d ≡ e
   refuses_one {s = s} a b = let x = refuses_read a true (length s) (omega arith) in let y = refuses_read b true (length s) (omega arith) in cc
 
   -- ---- a token stands before the rest
 
-  pub lexes_gap : (room at : ℕ) (first : Bool) (s : Text) (n : ℕ) (ts : List Token) → front_at s ≡ Some (Gap, n) → Lexes places room (at + n) first (drop n s) ts → Lexes places room at first s ts
+  pub lexes_gap : (room at : ℕ) (first : Bool) (s : Text) (n : ℕ) (ts : List Token) → front_at s ≡ Some (Gap, n) → Lexes origins room (at + n) first (drop n s) ts → Lexes origins room at first s ts
   lexes_gap room at first s n ts h d =
       let len : length (take n s) ≡ n = length-take-le n s (front_is s (Gap, n) h).within in
-      gap (take n s) (found_first s (Gap, n) h) (subst (λ k. Lexes places room (at + k) first (drop n s) ts) (sym len) d)
+      gap (take n s) (found_first s (Gap, n) h) (subst (λ k. Lexes origins room (at + k) first (drop n s) ts) (sym len) d)
 
-  pub refuses_gap : (room at : ℕ) (s : Text) (n : ℕ) (e : LexError) → front_at s ≡ Some (Gap, n) → Refuses places room (at + n) (drop n s) e → Refuses places room at s e
+  pub refuses_gap : (room at : ℕ) (s : Text) (n : ℕ) (e : LexError) → front_at s ≡ Some (Gap, n) → HasLexFault origins room (at + n) (drop n s) e → HasLexFault origins room at s e
   refuses_gap room at s n e h d =
       let len : length (take n s) ≡ n = length-take-le n s (front_is s (Gap, n) h).within in
-      gap (take n s) (found_first s (Gap, n) h) (subst (λ k. Refuses places room (at + k) (drop n s) e) (sym len) d)
+      gap (take n s) (found_first s (Gap, n) h) (subst (λ k. HasLexFault origins room (at + k) (drop n s) e) (sym len) d)
 
-  pub lexes_token : (room at : ℕ) (first : Bool) (s : Text) (kind : Kind) (n : ℕ) (ts : List Token) → front_at s ≡ Some (Sound kind, n) → Lexes places room (at + n) false (drop n s) ts →
-      Lexes places (suc room) at first s (token_at places kind at n first ∷ ts)
+  pub lexes_token : (room at : ℕ) (first : Bool) (s : Text) (kind : Kind) (n : ℕ) (ts : List Token) → front_at s ≡ Some (Sound kind, n) → Lexes origins room (at + n) false (drop n s) ts →
+      Lexes origins (suc room) at first s (token_at origins kind at n first ∷ ts)
   lexes_token room at first s kind n ts h d =
       let len : length (take n s) ≡ n = length-take-le n s (front_is s (Sound kind, n) h).within in
-      subst (λ k. Lexes places (suc room) at first s (token_at places kind at k first ∷ ts)) len
-      (token (take n s) kind (found_first s (Sound kind, n) h) (subst (λ k. Lexes places room (at + k) false (drop n s) ts) (sym len) d))
+      subst (λ k. Lexes origins (suc room) at first s (token_at origins kind at k first ∷ ts)) len
+      (token (take n s) kind (found_first s (Sound kind, n) h) (subst (λ k. Lexes origins room (at + k) false (drop n s) ts) (sym len) d))
 
-  pub refuses_token : (room at : ℕ) (s : Text) (kind : Kind) (n : ℕ) (e : LexError) → front_at s ≡ Some (Sound kind, n) → Refuses places room (at + n) (drop n s) e → Refuses places (suc room) at s e
+  pub refuses_token : (room at : ℕ) (s : Text) (kind : Kind) (n : ℕ) (e : LexError) → front_at s ≡ Some (Sound kind, n) → HasLexFault origins room (at + n) (drop n s) e → HasLexFault origins (suc room) at s e
   refuses_token room at s kind n e h d =
       let len : length (take n s) ≡ n = length-take-le n s (front_is s (Sound kind, n) h).within in
-      token (take n s) kind (found_first s (Sound kind, n) h) (subst (λ k. Refuses places room (at + k) (drop n s) e) (sym len) d)
+      token (take n s) kind (found_first s (Sound kind, n) h) (subst (λ k. HasLexFault origins room (at + k) (drop n s) e) (sym len) d)
 
-  pub refuses_full : (at : ℕ) (s : Text) (kind : Kind) (n : ℕ) → front_at s ≡ Some (Sound kind, n) → Refuses places zero at s (TooManyTokens (place_at places at).at)
+  pub refuses_full : (at : ℕ) (s : Text) (kind : Kind) (n : ℕ) → front_at s ≡ Some (Sound kind, n) → HasLexFault origins zero at s (TooManyTokens (origin_at origins at).offset)
   refuses_full at s kind n h = full (take n s) kind (found_first s (Sound kind, n) h)
 
-  pub refuses_faulty : (room at : ℕ) (s : Text) (fault : _) (n : ℕ) → front_at s ≡ Some (Faulty fault, n) → Refuses places room at s (refusal fault (place_at places at).at)
+  pub refuses_faulty : (room at : ℕ) (s : Text) (fault : _) (n : ℕ) → front_at s ≡ Some (Faulty fault, n) → HasLexFault origins room at s (refusal fault (origin_at origins at).offset)
   refuses_faulty room at s fault n h = faulty (take n s) fault (found_first s (Faulty fault, n) h)
 
-  pub refuses_unknown : (room at b : ℕ) (s : Text) → is_line_end b ≡ false → front_at (b ∷ s) ≡ None → Refuses places room at (b ∷ s) (BadByte (place_at places at).at)
+  pub refuses_unknown : (room at b : ℕ) (s : Text) → is_line_end b ≡ false → front_at (b ∷ s) ≡ None → HasLexFault origins room at (b ∷ s) (BadByte (origin_at origins at).offset)
   refuses_unknown room at b s goes_on h = unknown goes_on (none_found (b ∷ s) h)
 
   -- ---- each text has a reading
 
   abbrev pub Reading : ℕ → ℕ → Bool → Text → Type 0
-  Reading room at first s = ((ts : List Token) × Lexes places room at first s ts) ⊎ ((e : LexError) × Refuses places room at s e)
+  Reading room at first s = ((ts : List Token) × Lexes origins room at first s ts) ⊎ ((e : LexError) × HasLexFault origins room at s e)
 
   front_reading : (fuel room at b : ℕ) (first : Bool) (s : Text) → ((room at : ℕ) (first : Bool) (s : Text) → length s ≤ fuel → Reading room at first s) → length s ≤ fuel → is_line_end b ≡ false →
       Reading room at first (b ∷ s)
@@ -190,9 +190,9 @@ module _ (places : List Place) where
       shorter p is = let some = (front_is (b ∷ s) p is).some in omega (arith, length-drop p.1 (b ∷ s))
 
       at_room : (room : ℕ) (kind : Kind) (n : ℕ) → front_at (b ∷ s) ≡ Some (Sound kind, n) → Reading room at first (b ∷ s)
-      at_room zero kind n is = inr (TooManyTokens (place_at places at).at, refuses_full at (b ∷ s) kind n is)
+      at_room zero kind n is = inr (TooManyTokens (origin_at origins at).offset, refuses_full at (b ∷ s) kind n is)
       at_room (suc room) kind n is = elim (below room (at + n) false (drop n (b ∷ s)) (shorter (Sound kind, n) is)) [
-        | inl r ↦ inl (token_at places kind at n first ∷ r.0, lexes_token room at first (b ∷ s) kind n r.0 is r.1)
+        | inl r ↦ inl (token_at origins kind at n first ∷ r.0, lexes_token room at first (b ∷ s) kind n r.0 is r.1)
         | inr r ↦ inr (r.0, refuses_token room at (b ∷ s) kind n r.0 is r.1)
       ]
 
@@ -202,10 +202,10 @@ module _ (places : List Place) where
         | inl r ↦ inl (r.0, lexes_gap room at first (b ∷ s) n r.0 is r.1)
         | inr r ↦ inr (r.0, refuses_gap room at (b ∷ s) n r.0 is r.1)
       ]
-      at_piece (Faulty fault) n is = inr (refusal fault (place_at places at).at, refuses_faulty room at (b ∷ s) fault n is)
+      at_piece (Faulty fault) n is = inr (refusal fault (origin_at origins at).offset, refuses_faulty room at (b ∷ s) fault n is)
 
       at_found : (found : Option Piece) → front_at (b ∷ s) ≡ found → Reading room at first (b ∷ s)
-      at_found None is = inr (BadByte (place_at places at).at, refuses_unknown room at b s line_no is)
+      at_found None is = inr (BadByte (origin_at origins at).offset, refuses_unknown room at b s line_no is)
       at_found (Some p) is = at_piece p.0 p.1 is
 
   line_reading : (room at : ℕ) (first : Bool) (s : Text) → Reading room (at + 1) true s → Reading room at first (10 ∷ s)
@@ -222,7 +222,7 @@ module _ (places : List Place) where
 
   -- ---- no more tokens than there is room for
 
-  pub lexes_few : {room at : ℕ} {first : Bool} {s : Text} {ts : List Token} → Lexes places room at first s ts → length ts ≤ room
+  pub lexes_few : {room at : ℕ} {first : Bool} {s : Text} {ts : List Token} → Lexes origins room at first s ts → length ts ≤ room
   lexes_few end = omega arith
   lexes_few (line d) = lexes_few d
   lexes_few (gap word f d) = lexes_few d

@@ -12,16 +12,16 @@ use Rattle.c_tokens.specs.declared.kind.Kind.TheVariants.{Char, Str}
 use Rattle.c_lexer.specs.declared.lexeme.Lexeme.{Lexeme}
 use Rattle.c_lexer.specs.declared.lexeme.Lexeme.TheVariants.{Sound, Faulty}
 use Rattle.c_lexer.specs.declared.lexeme.Fault.TheVariants.{BadEscape}
-use Rattle.c_lexer.specs.Bytes.{Text, Each, first_passes, is_octal, is_hexadecimal, is_line_end, valued}
-use Rattle.c_lexer.specs.Escapes.{Inside, empty, plain, escaped, escapes, meant, IsUnit, itself, letter, octal, hexadecimal, Decodes, done, unit, Means, string, bad_string, character, bad_character, signed_byte}
-use Rattle.c_lexer.specs.Scan.{Unit, digits_unit, octal_at, hexadecimal_at, escape_at, letter_or, unit_at, decoded, whole_unit, meaning, closing}
+use Rattle.c_lexer.specs.Bytes.{Text, Each, first_passes, is_octal, is_hexadecimal, is_line_end, digits_value}
+use Rattle.c_lexer.specs.Escapes.{Inside, empty, plain, escaped, escapes, escape_byte, IsUnit, itself, letter, octal, hexadecimal, Decodes, nothing, unit, Means, string, bad_string, character, bad_character, signed_byte}
+use Rattle.c_lexer.specs.Scan.{Unit, digits_unit, octal_at, hexadecimal_at, escape_at, letter_or, unit_at, meant_bytes, whole_unit, meaning, closing_quote}
 use Rattle.c_lexer.proofs.Classes.{run_each, run_stops, run_whole, chosen}
 
 -- ---- the end
 
 pub inside_ends : (quote : ℕ) (body after : Text) → (92 == quote) ≡ false → is_line_end quote ≡ false → Inside quote body →
-    closing quote false (body ++ quote ∷ after) ≡ Some (length body)
-unfolding closing
+    closing_quote quote false (body ++ quote ∷ after) ≡ Some (length body)
+unfolding closing_quote
 inside_ends quote body after q n empty = rw (n, (eq-eqb quote quote refl)) refl
 inside_ends quote body after q n (plain {b = b} {s = s} a c d more) = rw (d, a, c) (ap (option_map suc) (inside_ends quote s after q n more))
 inside_ends quote body after q n (escaped {b = b} {s = s} d more) = rw (q, d) (ap (λ o. option_map suc (option_map suc o)) (inside_ends quote s after q n more))
@@ -40,13 +40,13 @@ mapped : (found : Option ℕ) (n : ℕ) → option_map suc found ≡ Some n → 
 mapped (Some m) n h = (m, refl, cc)
 mapped None n h = absurd cc
 
-pub closed : (quote : ℕ) (held : Bool) (s : Text) (n : ℕ) → closing quote held s ≡ Some n → Closes quote held s n
-unfolding closing
+pub closed : (quote : ℕ) (held : Bool) (s : Text) (n : ℕ) → closing_quote quote held s ≡ Some n → Closes quote held s n
+unfolding closing_quote
 closed quote held [] n h = absurd cc
-closed quote true (b ∷ s) n h = elim (chosen (is_line_end b) None (option_map suc (closing quote false s)) (Some n) h) [
+closed quote true (b ∷ s) n h = elim (chosen (is_line_end b) None (option_map suc (closing_quote quote false s)) (Some n) h) [
   | inl line ↦ (let e = line.1 in absurd cc)
   | inr on ↦ (
-      let (m, is, len) = mapped (closing quote false s) n on.1 in
+      let (m, is, len) = mapped (closing_quote quote false s) n on.1 in
       let c = closed quote false s m is in
       subst (λ n. Closes quote true (b ∷ s) n) (sym len) (record {
         within = (let low = c.within in omega arith);
@@ -56,7 +56,7 @@ closed quote true (b ∷ s) n h = elim (chosen (is_line_end b) None (option_map 
 ]
 closed quote false (b ∷ s) n h = elim (chosen (is_line_end b) None _ (Some n) h) [
   | inl line ↦ (let e = line.1 in absurd cc)
-  | inr on ↦ elim (chosen (b == quote) (Some 0) (option_map suc (closing quote (b == 92) s)) (Some n) on.1) [
+  | inr on ↦ elim (chosen (b == quote) (Some 0) (option_map suc (closing_quote quote (b == 92) s)) (Some n) on.1) [
     | inl here ↦ (
         let is : 0 ≡ n = (let e = here.1 in cc) in
         subst (λ n. Closes quote false (b ∷ s) n) is (record {
@@ -65,7 +65,7 @@ closed quote false (b ∷ s) n h = elim (chosen (is_line_end b) None _ (Some n) 
           inside = empty;
         }))
     | inr more ↦ (
-        let (m, is, len) = mapped (closing quote (b == 92) s) n more.1 in
+        let (m, is, len) = mapped (closing_quote quote (b == 92) s) n more.1 in
         let c = closed quote (b == 92) s m is in
         subst (λ n. Closes quote false (b ∷ s) n) (sym len) (record {
           within = (let low = c.within in omega arith);
@@ -91,17 +91,17 @@ run_within p (suc n) (b ∷ s) after each low stops =
     let more = run_within p n s after each.1 (omega arith) (λ less. stops (omega arith)) in
     rw (each.0, one-add (prefix_len p (take n (s ++ after)))) (ap suc more)
 
-octal_letter : (b : ℕ) → is_octal b ≡ true → meant escapes b ≡ None
+octal_letter : (b : ℕ) → is_octal b ≡ true → escape_byte escapes b ≡ None
 octal_letter b h = grind (arith, nat_tests)
 
 octal_no_x : (b : ℕ) → is_octal b ≡ true → (b == 120) ≡ false
 octal_no_x b h = grind (arith, nat_tests)
 
-small : (base before n b : ℕ) (word after : Text) → n ≡ suc (length word) → valued base 0 (b ∷ word) < 256 →
-    digits_unit base before (take n (b ∷ word ++ after)) ≡ Some (valued base 0 (b ∷ word), before + suc (length word))
+small : (base before n b : ℕ) (word after : Text) → n ≡ suc (length word) → digits_value base 0 (b ∷ word) < 256 →
+    digits_unit base before (take n (b ∷ word ++ after)) ≡ Some (digits_value base 0 (b ∷ word), before + suc (length word))
 small base before n b word after len low =
     let e : take n (b ∷ word ++ after) ≡ b ∷ word = take_at (b ∷ word) after n (sym len) in
-    ap (digits_unit base before) e ∙ rw (lt-ltb (valued base 0 (b ∷ word)) 256 low) refl
+    ap (digits_unit base before) e ∙ rw (lt-ltb (digits_value base 0 (b ∷ word)) 256 low) refl
 
 pub unit_complete : {word after : Text} {value : ℕ} → IsUnit word value after → unit_at (word ++ after) ≡ Some (value, length word)
 unfolding unit_at escape_at octal_at hexadecimal_at
@@ -110,11 +110,11 @@ unit_complete (letter h) = rw h refl
 unit_complete {after = after} (octal {b = b} {s = s} o each low stops less) =
     let run : prefix_len is_octal (take 3 (b ∷ s ++ after)) ≡ suc (length s) = rw (o, one-add (prefix_len is_octal (take 2 (s ++ after)))) (ap suc (run_within is_octal 2 s after each low stops)) in
     let e : 1 + suc (length s) ≡ suc (suc (length s)) = omega arith in
-    rw (octal_letter b o, octal_no_x b o) (small 8 1 (prefix_len is_octal (take 3 (b ∷ s ++ after))) b s after run less ∙ ap (λ n. Some (valued 8 0 (b ∷ s), n)) e)
+    rw (octal_letter b o, octal_no_x b o) (small 8 1 (prefix_len is_octal (take 3 (b ∷ s ++ after))) b s after run less ∙ ap (λ n. Some (digits_value 8 0 (b ∷ s), n)) e)
 unit_complete {after = after} (hexadecimal {b = b} {s = s} x each stops less) =
     let run : prefix_len is_hexadecimal (b ∷ s ++ after) ≡ suc (length s) = run_whole is_hexadecimal (b ∷ s) after (x, each) stops in
     let e : 2 + suc (length s) ≡ suc (suc (suc (length s))) = omega arith in
-    small 16 2 (prefix_len is_hexadecimal (b ∷ s ++ after)) b s after run less ∙ ap (λ n. Some (valued 16 0 (b ∷ s), n)) e
+    small 16 2 (prefix_len is_hexadecimal (b ∷ s ++ after)) b s after run less ∙ ap (λ n. Some (digits_value 16 0 (b ∷ s), n)) e
 
 pub record IsOne (s : Text) (value n : ℕ) : Type 0 where
   pub within : n ≤ length s
@@ -122,14 +122,14 @@ pub record IsOne (s : Text) (value n : ℕ) : Type 0 where
   pub is : IsUnit (take n s) value (drop n s)
 
 one_or_none : (base before : ℕ) (word : Text) (value n : ℕ) → digits_unit base before word ≡ Some (value, n) →
-    (0 < length word) × (valued base 0 word ≡ value) × (before + length word ≡ n) × (value < 256)
+    (0 < length word) × (digits_value base 0 word ≡ value) × (before + length word ≡ n) × (value < 256)
 one_or_none base before [] value n h = absurd cc
 one_or_none base before (b ∷ word) value n h =
-    elim (chosen (nat_lt (valued base 0 (b ∷ word)) 256) (Some (valued base 0 (b ∷ word), before + length (b ∷ word))) None (Some (value, n)) h) [
+    elim (chosen (nat_lt (digits_value base 0 (b ∷ word)) 256) (Some (digits_value base 0 (b ∷ word), before + length (b ∷ word))) None (Some (value, n)) h) [
       | inl c ↦ (
-          let both : ◌≡◌ {A = Unit} (valued base 0 (b ∷ word), before + length (b ∷ word)) (value, n) = (let e = c.1 in cc) in
-          let is : valued base 0 (b ∷ word) ≡ value = ap (λ (p : Unit). p.0) both in
-          let low = ltb-true (valued base 0 (b ∷ word)) 256 c.0 in
+          let both : ◌≡◌ {A = Unit} (digits_value base 0 (b ∷ word), before + length (b ∷ word)) (value, n) = (let e = c.1 in cc) in
+          let is : digits_value base 0 (b ∷ word) ≡ value = ap (λ (p : Unit). p.0) both in
+          let low = ltb-true (digits_value base 0 (b ∷ word)) 256 c.0 in
           (omega arith, is, ap (λ (p : Unit). p.1) both, subst (λ v. v < 256) is low))
       | inr c ↦ (let e = c.1 in absurd cc)
     ]
@@ -144,7 +144,7 @@ hexadecimal_most : (s : Text) → length (take (prefix_len is_hexadecimal s) s) 
 hexadecimal_most s = length-take-le (prefix_len is_hexadecimal s) s (prefix_len-le-length is_hexadecimal s)
 
 -- the digits of an octal escape
-octal_one : (k value n : ℕ) (s : Text) → k ≡ prefix_len is_octal (take 3 s) → 0 < k → valued 8 0 (take k s) ≡ value → 1 + k ≡ n → value < 256 → IsOne (92 ∷ s) value n
+octal_one : (k value n : ℕ) (s : Text) → k ≡ prefix_len is_octal (take 3 s) → 0 < k → digits_value 8 0 (take k s) ≡ value → 1 + k ≡ n → value < 256 → IsOne (92 ∷ s) value n
 octal_one k value n [] run some is len low = absurd (omega arith)
 octal_one zero value n (b ∷ s) run some is len low = absurd (omega arith)
 octal_one (suc k) value n (b ∷ s) run some is len low =
@@ -171,7 +171,7 @@ octal_one (suc k) value n (b ∷ s) run some is len low =
     still (suc zero) (b ∷ c ∷ s) h low = h
     still (suc (suc k)) (b ∷ s) h low = absurd (omega arith)
 
-hexadecimal_one : (k value n : ℕ) (s : Text) → k ≡ prefix_len is_hexadecimal s → 0 < k → valued 16 0 (take k s) ≡ value → 2 + k ≡ n → value < 256 → IsOne (92 ∷ 120 ∷ s) value n
+hexadecimal_one : (k value n : ℕ) (s : Text) → k ≡ prefix_len is_hexadecimal s → 0 < k → digits_value 16 0 (take k s) ≡ value → 2 + k ≡ n → value < 256 → IsOne (92 ∷ 120 ∷ s) value n
 hexadecimal_one k value n [] run some is len low = absurd (omega arith)
 hexadecimal_one zero value n (b ∷ s) run some is len low = absurd (omega arith)
 hexadecimal_one (suc k) value n (b ∷ s) run some is len low =
@@ -189,7 +189,7 @@ pub unit_sound : (s : Text) (value n : ℕ) → unit_at s ≡ Some (value, n) �
 unfolding unit_at escape_at octal_at hexadecimal_at
 unit_sound [] value n h = absurd cc
 unit_sound (b ∷ s) value n h = elim (chosen (b == 92) (escape_at s) (Some (b, 1)) (Some (value, n)) h) [
-  | inl c ↦ subst (λ b. IsOne (b ∷ s) value n) (sym (eqb-true b 92 c.0)) (behind s c.1)
+  | inl c ↦ subst (λ b. IsOne (b ∷ s) value n) (sym (eqb-true b 92 c.0)) (after_backslash s c.1)
   | inr c ↦ (
       let both : ◌≡◌ {A = Unit} (b, 1) (value, n) = (let e = c.1 in cc) in
       subst (λ (p : Unit). IsOne (b ∷ s) p.0 p.1) both (record { within = omega arith; some = omega arith; is = itself c.0 }))
@@ -207,46 +207,46 @@ unit_sound (b ∷ s) value n h = elim (chosen (b == 92) (escape_at s) (Some (b, 
           octal_one (prefix_len is_octal (take 3 (b ∷ s))) value n (b ∷ s) refl (omega arith) is (omega arith) low)
     ]
 
-    at_letter : (b : ℕ) (s : Text) (found : Option ℕ) → meant escapes b ≡ found → letter_or found (cond (b == 120) (hexadecimal_at s) (octal_at (b ∷ s))) ≡ Some (value, n) → IsOne (92 ∷ b ∷ s) value n
+    at_letter : (b : ℕ) (s : Text) (found : Option ℕ) → escape_byte escapes b ≡ found → letter_or found (cond (b == 120) (hexadecimal_at s) (octal_at (b ∷ s))) ≡ Some (value, n) → IsOne (92 ∷ b ∷ s) value n
     at_letter b s (Some v) is h =
         let both : ◌≡◌ {A = Unit} (v, 2) (value, n) = cc in
         subst (λ (p : Unit). IsOne (92 ∷ b ∷ s) p.0 p.1) both (record { within = omega arith; some = omega arith; is = letter is })
     at_letter b s None is h = digits b s h
 
-    behind : (s : Text) → escape_at s ≡ Some (value, n) → IsOne (92 ∷ s) value n
-    behind [] h = absurd cc
-    behind (b ∷ s) h = at_letter b s (meant escapes b) refl h
+    after_backslash : (s : Text) → escape_at s ≡ Some (value, n) → IsOne (92 ∷ s) value n
+    after_backslash [] h = absurd cc
+    after_backslash (b ∷ s) h = at_letter b s (escape_byte escapes b) refl h
 
 -- ---- all bytes
 
-pub decoded_skip : (k : ℕ) (s : Text) → decoded k s ≡ decoded 0 (drop k s)
-unfolding decoded
-decoded_skip zero s = refl
-decoded_skip (suc k) [] = refl
-decoded_skip (suc k) (b ∷ s) = decoded_skip k s
+pub meant_bytes_skip : (k : ℕ) (s : Text) → meant_bytes k s ≡ meant_bytes 0 (drop k s)
+unfolding meant_bytes
+meant_bytes_skip zero s = refl
+meant_bytes_skip (suc k) [] = refl
+meant_bytes_skip (suc k) (b ∷ s) = meant_bytes_skip k s
 
-pub decoded_unit : (s : Text) (value n : ℕ) → unit_at s ≡ Some (value, n) → decoded 0 s ≡ option_map (λ (bytes : List ℕ). value ∷ bytes) (decoded 0 (drop n s))
-unfolding decoded
-decoded_unit [] value n h = absurd (let some = (unit_sound [] value n h).some in let low = (unit_sound [] value n h).within in omega arith)
-decoded_unit (b ∷ s) value zero h = absurd (let some = (unit_sound (b ∷ s) value zero h).some in omega arith)
-decoded_unit (b ∷ s) value (suc n) h =
+pub meant_bytes_unit : (s : Text) (value n : ℕ) → unit_at s ≡ Some (value, n) → meant_bytes 0 s ≡ option_map (λ (bytes : List ℕ). value ∷ bytes) (meant_bytes 0 (drop n s))
+unfolding meant_bytes
+meant_bytes_unit [] value n h = absurd (let some = (unit_sound [] value n h).some in let low = (unit_sound [] value n h).within in omega arith)
+meant_bytes_unit (b ∷ s) value zero h = absurd (let some = (unit_sound (b ∷ s) value zero h).some in omega arith)
+meant_bytes_unit (b ∷ s) value (suc n) h =
     let e : suc n - 1 ≡ n = omega arith in
-    rw (h, e) (ap (option_map (λ (bytes : List ℕ). value ∷ bytes)) (decoded_skip n s))
+    rw (h, e) (ap (option_map (λ (bytes : List ℕ). value ∷ bytes)) (meant_bytes_skip n s))
 
-pub decoded_none : (s : Text) → 0 < length s → unit_at s ≡ None → decoded 0 s ≡ None
-unfolding decoded
-decoded_none [] some h = absurd (omega arith)
-decoded_none (b ∷ s) some h = rw h refl
+pub meant_bytes_none : (s : Text) → 0 < length s → unit_at s ≡ None → meant_bytes 0 s ≡ None
+unfolding meant_bytes
+meant_bytes_none [] some h = absurd (omega arith)
+meant_bytes_none (b ∷ s) some h = rw h refl
 
-pub decoded_nil : decoded 0 [] ≡ Some []
-unfolding decoded
-decoded_nil = refl
+pub meant_bytes_nil : meant_bytes 0 [] ≡ Some []
+unfolding meant_bytes
+meant_bytes_nil = refl
 
-pub decodes_complete : {s : Text} {bytes : List ℕ} → Decodes s bytes → decoded 0 s ≡ Some bytes
-decodes_complete done = decoded_nil
+pub decodes_complete : {s : Text} {bytes : List ℕ} → Decodes s bytes → meant_bytes 0 s ≡ Some bytes
+decodes_complete nothing = meant_bytes_nil
 decodes_complete (unit {word = word} {after = after} {value = value} u more) =
-    decoded_unit (word ++ after) value (length word) (unit_complete u)
-    ∙ ap (λ t. option_map (λ (bytes : List ℕ). value ∷ bytes) (decoded 0 t)) (drop_at word after (length word) refl)
+    meant_bytes_unit (word ++ after) value (length word) (unit_complete u)
+    ∙ ap (λ t. option_map (λ (bytes : List ℕ). value ∷ bytes) (meant_bytes 0 t)) (drop_at word after (length word) refl)
     ∙ ap (option_map (λ (bytes : List ℕ). value ∷ bytes)) (decodes_complete more)
 
 bytes_mapped : (value : ℕ) (found : Option (List ℕ)) (bytes : List ℕ) → option_map (λ (bytes : List ℕ). value ∷ bytes) found ≡ Some bytes →
@@ -254,28 +254,28 @@ bytes_mapped : (value : ℕ) (found : Option (List ℕ)) (bytes : List ℕ) → 
 bytes_mapped value (Some more) bytes h = (more, refl, cc)
 bytes_mapped value None bytes h = absurd cc
 
-decodes_up_to : (fuel : ℕ) (s : Text) (bytes : List ℕ) → length s ≤ fuel → decoded 0 s ≡ Some bytes → Decodes s bytes
-decodes_up_to fuel [] bytes low h = let is : [] ≡ bytes = (let e = decoded_nil in cc) in subst (λ t. Decodes [] t) is done
+decodes_up_to : (fuel : ℕ) (s : Text) (bytes : List ℕ) → length s ≤ fuel → meant_bytes 0 s ≡ Some bytes → Decodes s bytes
+decodes_up_to fuel [] bytes low h = let is : [] ≡ bytes = (let e = meant_bytes_nil in cc) in subst (λ t. Decodes [] t) is nothing
 decodes_up_to zero (b ∷ s) bytes low h = absurd (omega arith)
 decodes_up_to (suc fuel) (b ∷ s) bytes low h = at_unit (λ t more low h. decodes_up_to fuel t more low h) (unit_at (b ∷ s)) refl
   where
-    at_unit : ((t : Text) (more : List ℕ) → length t ≤ fuel → decoded 0 t ≡ Some more → Decodes t more) → (found : Option Unit) → unit_at (b ∷ s) ≡ found → Decodes (b ∷ s) bytes
-    at_unit below None is = absurd (let none = decoded_none (b ∷ s) (omega arith) is in cc)
+    at_unit : ((t : Text) (more : List ℕ) → length t ≤ fuel → meant_bytes 0 t ≡ Some more → Decodes t more) → (found : Option Unit) → unit_at (b ∷ s) ≡ found → Decodes (b ∷ s) bytes
+    at_unit below None is = absurd (let none = meant_bytes_none (b ∷ s) (omega arith) is in cc)
     at_unit below (Some p) is =
         let one = unit_sound (b ∷ s) p.0 p.1 is in
         let some = one.some in
-        let (more, later, all) = bytes_mapped p.0 (decoded 0 (drop p.1 (b ∷ s))) bytes (sym (decoded_unit (b ∷ s) p.0 p.1 is) ∙ h) in
+        let (more, later, all) = bytes_mapped p.0 (meant_bytes 0 (drop p.1 (b ∷ s))) bytes (sym (meant_bytes_unit (b ∷ s) p.0 p.1 is) ∙ h) in
         let shorter : length (drop p.1 (b ∷ s)) ≤ fuel = omega (arith, length-drop p.1 (b ∷ s)) in
         let rest = below (drop p.1 (b ∷ s)) more shorter later in
         subst (λ t. Decodes t bytes) (take-append-drop p.1 (b ∷ s)) (subst (λ t. Decodes (take p.1 (b ∷ s) ++ drop p.1 (b ∷ s)) t) all (unit one.is rest))
 
-pub decodes_sound : (s : Text) (bytes : List ℕ) → decoded 0 s ≡ Some bytes → Decodes s bytes
+pub decodes_sound : (s : Text) (bytes : List ℕ) → meant_bytes 0 s ≡ Some bytes → Decodes s bytes
 decodes_sound s bytes h = decodes_up_to (length s) s bytes (omega arith) h
 
 -- ---- what the body is
 
 one_unit : {s : Text} {value : ℕ} → Decodes s (value ∷ []) → unit_at s ≡ Some (value, length s)
-one_unit (unit {word = word} {value = value} u done) = unit_complete u ∙ ap (λ t. Some (value, length t)) (sym (append-nil word))
+one_unit (unit {word = word} {value = value} u nothing) = unit_complete u ∙ ap (λ t. Some (value, length t)) (sym (append-nil word))
 
 unit_one : (s : Text) (value : ℕ) → unit_at s ≡ Some (value, length s) → Decodes s (value ∷ [])
 unit_one s value h =
@@ -283,14 +283,14 @@ unit_one s value h =
     let front : take (length s) s ≡ s = take_all (length s) s (omega arith) in
     let rest : drop (length s) s ≡ [] = drop_all (length s) s (omega arith) in
     let is : IsUnit s value [] = subst (λ t. IsUnit t value []) front (subst (λ t. IsUnit (take (length s) s) value t) rest one.is) in
-    subst (λ t. Decodes t (value ∷ [])) (append-nil s) (unit is done)
+    subst (λ t. Decodes t (value ∷ [])) (append-nil s) (unit is nothing)
 
 pub means_complete : {quote : ℕ} {body : Text} {lexeme : Lexeme} → Means quote body lexeme → meaning quote body ≡ lexeme
 unfolding meaning
 means_complete (string d) = rw (decodes_complete d) refl
-means_complete (bad_string {body = body} none) = at_bytes (decoded 0 body) refl
+means_complete (bad_string {body = body} none) = at_bytes (meant_bytes 0 body) refl
   where
-    at_bytes : (found : Option (List ℕ)) → decoded 0 body ≡ found → cond (is_some found) (Sound Str) (Faulty BadEscape) ≡ Faulty BadEscape
+    at_bytes : (found : Option (List ℕ)) → meant_bytes 0 body ≡ found → cond (is_some found) (Sound Str) (Faulty BadEscape) ≡ Faulty BadEscape
     at_bytes None is = refl
     at_bytes (Some bytes) is = absurd (none bytes (decodes_sound body bytes is))
 means_complete (character {body = body} {value = value} d) = rw (one_unit d, eq-eqb (length body) (length body) refl) refl
@@ -305,11 +305,11 @@ means_complete (bad_character {body = body} none) = at_unit (unit_at body) refl
 
 pub means_string : (body : Text) → Means 34 body (meaning 34 body)
 unfolding meaning
-means_string body = at_bytes (decoded 0 body) refl
+means_string body = at_bytes (meant_bytes 0 body) refl
   where
-    at_bytes : (found : Option (List ℕ)) → decoded 0 body ≡ found → Means 34 body (cond (is_some found) (Sound Str) (Faulty BadEscape))
+    at_bytes : (found : Option (List ℕ)) → meant_bytes 0 body ≡ found → Means 34 body (cond (is_some found) (Sound Str) (Faulty BadEscape))
     at_bytes (Some bytes) is = string (decodes_sound body bytes is)
-    at_bytes None is = bad_string (λ (bytes : List ℕ) (d : Decodes body bytes). let e : decoded 0 body ≡ Some bytes = decodes_complete d in cc)
+    at_bytes None is = bad_string (λ (bytes : List ℕ) (d : Decodes body bytes). let e : meant_bytes 0 body ≡ Some bytes = decodes_complete d in cc)
 
 pub means_character : (body : Text) → Means 39 body (meaning 39 body)
 unfolding meaning

@@ -50,6 +50,6 @@ abbrev pub digit_value : ℕ → ℕ
 digit_value b = if nat_le b 57 then b - 48 else (if nat_le 97 b then b - 87 else b - 55)
 
 -- the number that the digits write in this base, with n before them
-abbrev pub valued : ℕ → ℕ → Text → ℕ
-valued base n [] = n
-valued base n (b ∷ s) = valued base (n * base + digit_value b) s
+abbrev pub digits_value : ℕ → ℕ → Text → ℕ
+digits_value base n [] = n
+digits_value base n (b ∷ s) = digits_value base (n * base + digit_value b) s

@@ -1,5 +1,5 @@
 -- Constants of whole numbers (C11 6.4.4.1), over an `int` of 32 bits and a `long` and `long long` of 64.
-use Rattle.std.specs.Prelude.{◌≡◌, ℕ, ◌^◌, Bool, true, nat_lt, List, [], ◌∷◌, Option, Some, None, codes, if◌then◌else◌}
+use Rattle.std.specs.Prelude.{◌≡◌, ℕ, ◌^◌, Bool, true, nat_lt, List, [], ◌∷◌, map, Option, Some, None, if◌then◌else◌}
 use Rattle.c_tokens.specs.declared.kind.Kind.TheVariants.{Number}
 use Rattle.c_tokens.specs.declared.kind.NumType.{NumType}
 use Rattle.c_tokens.specs.declared.kind.NumType.TheVariants.{Int, UInt, Long, ULong}
@@ -7,27 +7,22 @@ use Rattle.c_lexer.specs.declared.numbers.Radix.{Radix}
 use Rattle.c_lexer.specs.declared.numbers.Radix.TheVariants as radix
 use Rattle.c_lexer.specs.declared.numbers.Suffix.{Suffix}
 use Rattle.c_lexer.specs.declared.numbers.Suffix.TheVariants as suffix
+use Rattle.c_lexer.specs.declared.numbers.TheConstants.{SUFFIXES}
 use Rattle.c_lexer.specs.declared.lexeme.Lexeme.{Lexeme}
 use Rattle.c_lexer.specs.declared.lexeme.Lexeme.TheVariants.{Sound, Faulty}
 use Rattle.c_lexer.specs.declared.lexeme.Fault.TheVariants.{NumberTooLarge}
-use Rattle.c_lexer.specs.Bytes.{Text, Each, is_digit, is_octal, is_hexadecimal, is_x, valued}
+use Rattle.c_lexer.specs.Bytes.{Text, Each, is_digit, is_octal, is_hexadecimal, is_x, digits_value}
 
 -- `Numeral word radix value`: the word is a constant without a suffix. A leading zero makes it an octal one.
 pub data Numeral : Text → Radix → ℕ → Type 0 where
-  decimal : {b : ℕ} {s : Text} → is_digit b ≡ true → (b ≡ 48 → ⊥) → Each is_digit s → Numeral (b ∷ s) radix.Decimal (valued 10 0 (b ∷ s))
-  octal : {s : Text} → Each is_octal s → Numeral (48 ∷ s) radix.Octal (valued 8 0 (48 ∷ s))
+  decimal : {b : ℕ} {s : Text} → is_digit b ≡ true → (b ≡ 48 → ⊥) → Each is_digit s → Numeral (b ∷ s) radix.Decimal (digits_value 10 0 (b ∷ s))
+  octal : {s : Text} → Each is_octal s → Numeral (48 ∷ s) radix.Octal (digits_value 8 0 (48 ∷ s))
   hexadecimal : {x b : ℕ} {s : Text} → is_x x ≡ true → is_hexadecimal b ≡ true → Each is_hexadecimal s →
-      Numeral (48 ∷ x ∷ b ∷ s) radix.Hexadecimal (valued 16 0 (b ∷ s))
+      Numeral (48 ∷ x ∷ b ∷ s) radix.Hexadecimal (digits_value 16 0 (b ∷ s))
 
 -- a longer one before those that it begins with
 abbrev pub suffixes : List (Suffix × Text)
-suffixes =
-    (suffix.UnsignedLong, codes "ull") ∷ (suffix.UnsignedLong, codes "uLL") ∷ (suffix.UnsignedLong, codes "Ull") ∷ (suffix.UnsignedLong, codes "ULL")
-    ∷ (suffix.UnsignedLong, codes "llu") ∷ (suffix.UnsignedLong, codes "llU") ∷ (suffix.UnsignedLong, codes "LLu") ∷ (suffix.UnsignedLong, codes "LLU")
-    ∷ (suffix.UnsignedLong, codes "ul") ∷ (suffix.UnsignedLong, codes "uL") ∷ (suffix.UnsignedLong, codes "Ul") ∷ (suffix.UnsignedLong, codes "UL")
-    ∷ (suffix.UnsignedLong, codes "lu") ∷ (suffix.UnsignedLong, codes "lU") ∷ (suffix.UnsignedLong, codes "Lu") ∷ (suffix.UnsignedLong, codes "LU")
-    ∷ (suffix.Long, codes "ll") ∷ (suffix.Long, codes "LL") ∷ (suffix.Unsigned, codes "u") ∷ (suffix.Unsigned, codes "U")
-    ∷ (suffix.Long, codes "l") ∷ (suffix.Long, codes "L") ∷ (suffix.Plain, []) ∷ []
+suffixes = map (λ e. (e.0, e.1.now)) SUFFIXES
 
 -- the types that a constant may have, in the order in which they are tried
 abbrev pub types_for : Radix → Suffix → List NumType

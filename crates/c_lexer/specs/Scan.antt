@@ -15,9 +15,9 @@ use Rattle.c_lexer.specs.declared.numbers.Suffix.TheVariants.{Plain}
 use Rattle.c_lexer.specs.declared.lexeme.Lexeme.{Lexeme}
 use Rattle.c_lexer.specs.declared.lexeme.Lexeme.TheVariants.{Sound, Gap, Faulty}
 use Rattle.c_lexer.specs.declared.lexeme.Fault.TheVariants.{OpenComment, OpenString, BadEscape}
-use Rattle.c_lexer.specs.Bytes.{Text, is_letter, is_digit, is_octal, is_hexadecimal, is_word, is_quote, is_blank, is_line_end, is_x, first_passes, valued}
+use Rattle.c_lexer.specs.Bytes.{Text, is_letter, is_digit, is_octal, is_hexadecimal, is_word, is_quote, is_blank, is_line_end, is_x, first_passes, digits_value}
 use Rattle.c_lexer.specs.Numbers.{suffixes, number_lexeme}
-use Rattle.c_lexer.specs.Escapes.{escapes, meant, signed_byte}
+use Rattle.c_lexer.specs.Escapes.{escapes, escape_byte, signed_byte}
 use Rattle.c_lexer.specs.Words.{no_line_end}
 
 -- the text begins with the word
@@ -83,7 +83,7 @@ unfoldable pub number_of : Radix → Text → Piece
 number_of radix s =
     let digits = digits_len radix s in
     let ending = suffix_at (drop digits s) in
-    (number_lexeme radix ending.0 (valued (base_of radix) 0 (take digits s)), prefix_of radix + digits + ending.1)
+    (number_lexeme radix ending.0 (digits_value (base_of radix) 0 (take digits s)), prefix_of radix + digits + ending.1)
 
 unfoldable pub number_at : Text → Piece
 number_at s = number_of (radix_at s) (drop (prefix_of (radix_at s)) s)
@@ -97,10 +97,10 @@ Unit = ℕ × ℕ
 abbrev pub small_unit : ℕ → ℕ → Option Unit
 small_unit value len = if nat_lt value 256 then Some (value, len) else None
 
--- digits behind `before` bytes
+-- digits after `before` bytes
 abbrev pub digits_unit : ℕ → ℕ → Text → Option Unit
 digits_unit base before [] = None
-digits_unit base before (b ∷ digits) = small_unit (valued base 0 (b ∷ digits)) (before + length (b ∷ digits))
+digits_unit base before (b ∷ digits) = small_unit (digits_value base 0 (b ∷ digits)) (before + length (b ∷ digits))
 
 unfoldable pub octal_at : Text → Option Unit
 octal_at s = digits_unit 8 1 (take (prefix_len is_octal (take 3 s)) s)
@@ -112,10 +112,10 @@ abbrev pub letter_or : Option ℕ → Option Unit → Option Unit
 letter_or (Some value) otherwise = Some (value, 2)
 letter_or None otherwise = otherwise
 
--- what stands behind a backslash
+-- what comes after a backslash
 unfoldable pub escape_at : Text → Option Unit
 escape_at [] = None
-escape_at (b ∷ s) = letter_or (meant escapes b) (if b == 120 then hexadecimal_at s else octal_at (b ∷ s))
+escape_at (b ∷ s) = letter_or (escape_byte escapes b) (if b == 120 then hexadecimal_at s else octal_at (b ∷ s))
 
 unfoldable pub unit_at : Text → Option Unit
 unit_at [] = None
@@ -125,11 +125,11 @@ abbrev pub after_unit : Option Unit → (ℕ → Option (List ℕ)) → Option (
 after_unit None later = None
 after_unit (Some found) later = option_map (λ (bytes : List ℕ). found.0 ∷ bytes) (later (found.1 - 1))
 
--- the bytes that the text behind so many bytes means
-unfoldable pub decoded : ℕ → Text → Option (List ℕ)
-decoded skip [] = Some []
-decoded zero (b ∷ s) = after_unit (unit_at (b ∷ s)) (λ skip. decoded skip s)
-decoded (suc skip) (b ∷ s) = decoded skip s
+-- the bytes that the text means from so many bytes on
+unfoldable pub meant_bytes : ℕ → Text → Option (List ℕ)
+meant_bytes skip [] = Some []
+meant_bytes zero (b ∷ s) = after_unit (unit_at (b ∷ s)) (λ skip. meant_bytes skip s)
+meant_bytes (suc skip) (b ∷ s) = meant_bytes skip s
 
 -- one byte, if its spelling is all
 abbrev pub whole_unit : ℕ → Option Unit → Lexeme
@@ -138,22 +138,22 @@ whole_unit len None = Faulty BadEscape
 
 unfoldable pub meaning : ℕ → Text → Lexeme
 meaning quote body =
-    if quote == 34 then (if is_some (decoded 0 body) then Sound Str else Faulty BadEscape) else whole_unit (length body) (unit_at body)
+    if quote == 34 then (if is_some (meant_bytes 0 body) then Sound Str else Faulty BadEscape) else whole_unit (length body) (unit_at body)
 
 -- where the closing quote stands; `escaped` says that a backslash stands before
-unfoldable pub closing : ℕ → Bool → Text → Option ℕ
-closing quote escaped [] = None
-closing quote escaped (b ∷ s) =
+unfoldable pub closing_quote : ℕ → Bool → Text → Option ℕ
+closing_quote quote escaped [] = None
+closing_quote quote escaped (b ∷ s) =
     if is_line_end b then None
-    else (if not escaped && b == quote then Some 0 else option_map suc (closing quote (not escaped && b == 92) s))
+    else (if not escaped && b == quote then Some 0 else option_map suc (closing_quote quote (not escaped && b == 92) s))
 
-abbrev pub quoted_to : ℕ → Text → Option ℕ → Piece
-quoted_to quote s (Some len) = (meaning quote (take len s), len + 2)
-quoted_to quote s None = (Faulty OpenString, 1)
+abbrev pub quotation_to : ℕ → Text → Option ℕ → Piece
+quotation_to quote s (Some len) = (meaning quote (take len s), len + 2)
+quotation_to quote s None = (Faulty OpenString, 1)
 
 -- what a quote before this text begins
-unfoldable pub quoted_at : ℕ → Text → Piece
-quoted_at quote s = quoted_to quote s (closing quote false s)
+unfoldable pub quotation_at : ℕ → Text → Piece
+quotation_at quote s = quotation_to quote s (closing_quote quote false s)
 
 -- ---- comments
 
@@ -182,5 +182,5 @@ front_at [] = None
 front_at (b ∷ s) =
     if is_letter b then Some (word_at (b ∷ s))
     else (if is_digit b then Some (number_at (b ∷ s))
-    else (if is_quote b then Some (quoted_at b s)
+    else (if is_quote b then Some (quotation_at b s)
     else (if is_blank b then Some (Gap, 1) else sign_at (b ∷ s))))

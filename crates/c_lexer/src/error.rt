@@ -8,13 +8,13 @@ use crate::lexeme::Fault;
 use std::alloc::{AllocError, AllocFailed};
 use thiserror::Error;
 
-/// Why there are no tokens. A place is counted in bytes from 0; the first reason in the text is answered, and of two at
-/// one place the one that stands first here.
+/// Why there are no tokens. An offset counts bytes from 0; the first reason in the text is answered, and of two at one
+/// offset the one that stands first here.
 #[derive(Debug, Drop, Error)]
 pub enum LexError {
     #[error("out of memory")]
     Memory(AllocError),
-    /// No token begins with the byte at this place.
+    /// No token begins with the byte at this offset.
     #[error("no token begins with the byte at {0}")]
     BadByte(u32),
     /// A comment that begins here has no end.
@@ -50,7 +50,7 @@ impl<T: Drop> From<AllocFailed<T>> for LexError {
     }
 }
 
-/// The refusal of a fault at this place.
+/// The refusal of a fault at this offset.
 pub fn refusal(fault: Fault, at: u32) -> LexError
     ensures { result ≡ spec.refusal fault at }
 {

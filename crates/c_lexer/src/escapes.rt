@@ -3,17 +3,17 @@
 ghost use Rattle.std.specs.Prelude.{◌≡◌, ◌+◌, ◌<◌, ◌≤◌, length, take, drop, is_some, IfOk, IfSome};
 ghost use Rattle.std.specs.Option.{ForSome};
 ghost use Rattle.std.specs.List.{prefix_len};
-ghost use Rattle.c_lexer.specs.Bytes.{valued, is_octal as octal_digit, is_hexadecimal as hexadecimal_digit};
-ghost use Rattle.c_lexer.specs.Escapes.{escapes, meant};
+ghost use Rattle.c_lexer.specs.Bytes.{digits_value, is_octal as octal_digit, is_hexadecimal as hexadecimal_digit};
+ghost use Rattle.c_lexer.specs.Escapes.{escapes, escape_byte};
 ghost use Rattle.c_lexer.specs.Scan as spec;
 
 use crate::bytes::{is_hexadecimal, is_octal};
 use crate::numbers::value_of;
 use std::alloc::{AllocError, Global};
 
-/// The byte that a letter behind a backslash means.
-fn letter(b: u8) -> Option<u8>
-    ensures { result ≡ meant escapes b }
+/// The byte that a letter after a backslash means.
+fn escape_byte(b: u8) -> Option<u8>
+    ensures { result ≡ escape_byte escapes b }
 {
     match b {
         b'\'' | b'"' | b'?' | b'\\' => Some(b),
@@ -69,7 +69,7 @@ fn first_three(s: &[u8]) -> &[u8]
     if s.len() > 3 { &s[..3] } else { s }
 }
 
-/// Up to three octal digits behind a backslash.
+/// Up to three octal digits after a backslash.
 #[tactic(auto, unfolding(crate::specs::Scan::octal_at))]
 fn octal(s: &[u8]) -> Option<(u8, usize)>
     ensures { result ≡ spec.octal_at s.now }
@@ -78,7 +78,7 @@ fn octal(s: &[u8]) -> Option<(u8, usize)>
     digits_unit(8, 1, &s[..len])
 }
 
-/// The hexadecimal digits behind a backslash and its letter.
+/// The hexadecimal digits after a backslash and its letter.
 #[tactic(auto, unfolding(crate::specs::Scan::hexadecimal_at))]
 fn hexadecimal(s: &[u8]) -> Option<(u8, usize)>
     ensures { result ≡ spec.hexadecimal_at s.now }
@@ -87,13 +87,13 @@ fn hexadecimal(s: &[u8]) -> Option<(u8, usize)>
     digits_unit(16, 2, &s[..len])
 }
 
-/// What stands behind a backslash.
+/// What comes after a backslash.
 #[tactic(auto, unfolding(crate::specs::Scan::escape_at))]
 fn escape(s: &[u8]) -> Option<(u8, usize)>
     ensures { result ≡ spec.escape_at s.now }
 {
     let b = *s.first()?;
-    match letter(b) {
+    match escape_byte(b) {
         Some(value) => Some((value, 2)),
         None if b == b'x' => hexadecimal(&s[1..]),
         None => octal(s),
@@ -124,7 +124,7 @@ fn unit_from(s: &[u8], at: usize) -> Option<(u8, usize)>
 
 /// Whether the text means bytes.
 pub fn means_bytes(s: &[u8]) -> bool
-    ensures { result ≡ is_some (spec.decoded 0 s.now) }
+    ensures { result ≡ is_some (spec.meant_bytes 0 s.now) }
 {
     let mut at = 0;
     while at < s.len() {
@@ -138,7 +138,7 @@ pub fn means_bytes(s: &[u8]) -> bool
 
 /// The bytes that the text means, as far as it means bytes.
 pub fn decode(alloc: Global, s: &[u8]) -> Result<Vec<u8>, AllocError>
-    ensures { IfOk result (λ bytes. ForSome (spec.decoded 0 s.now) (λ meant. bytes.items ≡ meant)) }
+    ensures { IfOk result (λ bytes. ForSome (spec.meant_bytes 0 s.now) (λ own. bytes.items ≡ own)) }
 {
     let mut bytes = Vec::with_capacity(alloc, s.len())?;
     let mut at = 0;

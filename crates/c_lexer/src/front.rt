@@ -6,9 +6,10 @@ ghost use Rattle.c_lexer.specs.Scan as spec;
 use crate::bytes::{is_blank, is_digit, is_letter, is_quote};
 use crate::comments::{comment, line_len};
 use crate::lexeme::Lexeme;
-use crate::marks::{begins, mark};
+use crate::marks::mark;
 use crate::numbers::number;
-use crate::quotes::quoted;
+use crate::quotes::quotation;
+use crate::tables::begins;
 use crate::words::word;
 use c_tokens::Kind;
 
@@ -38,7 +39,7 @@ fn front(s: &[u8]) -> Option<(Lexeme, usize)>
     } else if is_digit(b) {
         Some(number(s))
     } else if is_quote(b) {
-        Some(quoted(b, &s[1..]))
+        Some(quotation(b, &s[1..]))
     } else if is_blank(b) {
         Some((Lexeme::Gap, 1))
     } else {

@@ -13,9 +13,10 @@ mod marks;
 mod numbers;
 mod quotes;
 mod strings;
+mod tables;
 mod words;
 
-pub use c_tokens::{Keyword, Kind, Mark, NumType, Token};
+pub use c_tokens::{Keyword, Kind, MAX_SOURCE_BYTES, MAX_TOKENS, Mark, NumType, Token};
 pub use error::LexError;
-pub use lexer::{MAX_TEXT, law_tokens, lex};
+pub use lexer::{law_names, law_tokens, lex};
 pub use strings::{law_strings, text_bytes};

@@ -1,13 +1,13 @@
 //! Constants of whole numbers (C11 6.4.4.1).
 
 ghost use Rattle.std.specs.Prelude.{◌≡◌, ◌≤◌, ◌<◌, ◌^◌, true, length, drop, Some, None, IfSome, nat_lt, if◌then◌else◌};
-ghost use Rattle.c_lexer.specs.Bytes.{valued, first_passes, is_digit as decimal_digit};
+ghost use Rattle.c_lexer.specs.Bytes.{digits_value, first_passes, is_digit as decimal_digit};
 ghost use Rattle.c_lexer.specs.Numbers as numbers;
 ghost use Rattle.c_lexer.specs.Scan as spec;
 
 use crate::bytes::{digit_value, is_digit, is_hexadecimal, is_octal, is_x};
 use crate::lexeme::{Fault, Lexeme};
-use crate::marks::begins;
+use crate::tables::first_match;
 use c_tokens::{Kind, NumType};
 
 /// How a constant is written.
@@ -18,7 +18,7 @@ pub enum Radix {
     Hexadecimal,
 }
 
-/// What the letters behind the digits say of the type; `long long` is `long`.
+/// What the letters after the digits say of the type; `long long` is `long`.
 #[derive(Clone, Copy, Debug, PartialEq, Eq)]
 pub enum Suffix {
     Plain,
@@ -26,6 +26,33 @@ pub enum Suffix {
     Long,
     UnsignedLong,
 }
+
+/// The suffixes with their spellings; a longer one stands before those that it begins with.
+const SUFFIXES: [(Suffix, &[u8]); 23] = [
+    (Suffix::UnsignedLong, b"ull"),
+    (Suffix::UnsignedLong, b"uLL"),
+    (Suffix::UnsignedLong, b"Ull"),
+    (Suffix::UnsignedLong, b"ULL"),
+    (Suffix::UnsignedLong, b"llu"),
+    (Suffix::UnsignedLong, b"llU"),
+    (Suffix::UnsignedLong, b"LLu"),
+    (Suffix::UnsignedLong, b"LLU"),
+    (Suffix::UnsignedLong, b"ul"),
+    (Suffix::UnsignedLong, b"uL"),
+    (Suffix::UnsignedLong, b"Ul"),
+    (Suffix::UnsignedLong, b"UL"),
+    (Suffix::UnsignedLong, b"lu"),
+    (Suffix::UnsignedLong, b"lU"),
+    (Suffix::UnsignedLong, b"Lu"),
+    (Suffix::UnsignedLong, b"LU"),
+    (Suffix::Long, b"ll"),
+    (Suffix::Long, b"LL"),
+    (Suffix::Unsigned, b"u"),
+    (Suffix::Unsigned, b"U"),
+    (Suffix::Long, b"l"),
+    (Suffix::Long, b"L"),
+    (Suffix::Plain, b""),
+];
 
 /// How the constant at the front is written.
 fn radix_at(s: &[u8]) -> Radix
@@ -87,7 +114,7 @@ fn digits_len(radix: Radix, s: &[u8]) -> usize
 /// The number that the digits write, if 64 bits hold it.
 pub fn value_of(base: u64, digits: &[u8]) -> Option<u64>
     requires { 0 < base }
-    ensures { result ≡ (if nat_lt (valued base 0 digits.now) (2 ^ 64) then Some (valued base 0 digits.now) else None) }
+    ensures { result ≡ (if nat_lt (digits_value base 0 digits.now) (2 ^ 64) then Some (digits_value base 0 digits.now) else None) }
 {
     let mut n: u64 = 0;
     for b in digits {
@@ -105,52 +132,11 @@ pub fn value_of(base: u64, digits: &[u8]) -> Option<u64>
 /// The suffix at the front with its length.
 fn suffix_at(s: &[u8]) -> (Suffix, usize)
     ensures value { result ≡ spec.suffix_at s.now }
-    ensures short { result.1 ≤ 3 }
+    ensures within { result.1 ≤ length s.now }
 {
-    match unsigned_long_of_three(s) {
+    match first_match(&SUFFIXES, s) {
         Some(found) => found,
         None => (Suffix::Plain, 0),
-    }
-}
-
-fn unsigned_long_of_three(s: &[u8]) -> Option<(Suffix, usize)>
-    ensures value { result ≡ spec.first_match numbers.suffixes s.now }
-    ensures short { IfSome result (λ found. found.1 ≤ 3) }
-{
-    if begins(s, b"ull") || begins(s, b"uLL") || begins(s, b"Ull") || begins(s, b"ULL") {
-        Some((Suffix::UnsignedLong, 3))
-    } else if begins(s, b"llu") || begins(s, b"llU") || begins(s, b"LLu") || begins(s, b"LLU") {
-        Some((Suffix::UnsignedLong, 3))
-    } else {
-        unsigned_long_of_two(s)
-    }
-}
-
-fn unsigned_long_of_two(s: &[u8]) -> Option<(Suffix, usize)>
-    ensures value { result ≡ spec.first_match (drop 8 numbers.suffixes) s.now }
-    ensures short { IfSome result (λ found. found.1 ≤ 2) }
-{
-    if begins(s, b"ul") || begins(s, b"uL") || begins(s, b"Ul") || begins(s, b"UL") {
-        Some((Suffix::UnsignedLong, 2))
-    } else if begins(s, b"lu") || begins(s, b"lU") || begins(s, b"Lu") || begins(s, b"LU") {
-        Some((Suffix::UnsignedLong, 2))
-    } else {
-        shorter_suffix(s)
-    }
-}
-
-fn shorter_suffix(s: &[u8]) -> Option<(Suffix, usize)>
-    ensures value { result ≡ spec.first_match (drop 16 numbers.suffixes) s.now }
-    ensures short { IfSome result (λ found. found.1 ≤ 2) }
-{
-    if begins(s, b"ll") || begins(s, b"LL") {
-        Some((Suffix::Long, 2))
-    } else if begins(s, b"u") || begins(s, b"U") {
-        Some((Suffix::Unsigned, 1))
-    } else if begins(s, b"l") || begins(s, b"L") {
-        Some((Suffix::Long, 1))
-    } else {
-        Some((Suffix::Plain, 0))
     }
 }
 
@@ -193,7 +179,7 @@ fn first_type(value: u64, types: &[NumType]) -> Option<NumType>
 }
 
 /// The constant with its type, or too large for each type that it may have.
-fn typed(value: u64, types: &[NumType]) -> Lexeme
+fn typed_number(value: u64, types: &[NumType]) -> Lexeme
     ensures { result ≡ numbers.typed_number value (numbers.first_type value types.now) }
 {
     match first_type(value, types) {
@@ -204,16 +190,16 @@ fn typed(value: u64, types: &[NumType]) -> Lexeme
 
 /// The constant of these digits.
 fn constant(radix: Radix, suffix: Suffix, digits: &[u8]) -> Lexeme
-    ensures { result ≡ numbers.number_lexeme radix suffix (valued (spec.base_of radix) 0 digits.now) }
+    ensures { result ≡ numbers.number_lexeme radix suffix (digits_value (spec.base_of radix) 0 digits.now) }
 {
     match value_of(base_of(radix), digits) {
-        Some(value) => typed(value, types_for(radix, suffix)),
+        Some(value) => typed_number(value, types_for(radix, suffix)),
         None => Lexeme::Faulty(Fault::NumberTooLarge),
     }
 }
 
 /// The text from the index on.
-fn behind(s: &[u8], at: usize) -> &[u8]
+fn rest_from(s: &[u8], at: usize) -> &[u8]
     requires { at ≤ length s.now }
     ensures { result.now ≡ drop at s.now }
 {
@@ -228,9 +214,9 @@ pub fn number(s: &[u8]) -> (Lexeme, usize)
 {
     let radix = radix_at(s);
     let prefix = prefix_of(radix);
-    let rest = behind(s, prefix);
+    let rest = rest_from(s, prefix);
     let digits = digits_len(radix, rest);
-    let ending = suffix_at(behind(rest, digits));
+    let ending = suffix_at(rest_from(rest, digits));
     (
         constant(radix, ending.0, &rest[..digits]),
         prefix + digits + ending.1,

@@ -17,8 +17,8 @@ fn stands_free(escaped: bool, b: u8, wanted: u8) -> bool
 }
 
 /// Where the closing quote stands.
-fn closing(quote: u8, s: &[u8]) -> Option<usize>
-    ensures value { result ≡ spec.closing quote false s.now }
+fn closing_quote(quote: u8, s: &[u8]) -> Option<usize>
+    ensures value { result ≡ spec.closing_quote quote false s.now }
     ensures within { IfSome result (λ at. at < length s.now) }
 {
     let mut escaped = false;
@@ -64,11 +64,11 @@ fn meaning(quote: u8, body: &[u8]) -> Lexeme
 }
 
 /// What a quote before this text begins, with its whole length.
-#[tactic(auto, unfolding(crate::specs::Scan::quoted_at))]
-pub fn quoted(quote: u8, s: &[u8]) -> (Lexeme, usize)
-    ensures { result ≡ spec.quoted_at quote s.now }
+#[tactic(auto, unfolding(crate::specs::Scan::quotation_at))]
+pub fn quotation(quote: u8, s: &[u8]) -> (Lexeme, usize)
+    ensures { result ≡ spec.quotation_at quote s.now }
 {
-    match closing(quote, s) {
+    match closing_quote(quote, s) {
         Some(len) => (meaning(quote, &s[..len]), len + 2),
         None => (Lexeme::Faulty(Fault::OpenString), 1),
     }

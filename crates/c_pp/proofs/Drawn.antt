@@ -5,7 +5,7 @@ use Rattle.std.specs.Str.{bytes_eq}
 use Rattle.std.proofs.lemmas.Bool.{cases_Bool}
 use Rattle.std.proofs.lemmas.List.Elements.{All-nil, All-cons, All-head, All-tail, All-append, All-contains_itself}
 use Rattle.c_tokens.specs.declared.token.Token.{Token}
-use Rattle.c_pp.specs.Names.{Text, Name}
+use Rattle.c_tokens.specs.Names.{Text, Name}
 use Rattle.c_pp.specs.Directives.{Definition, Obeys, nothing, include, define, undef}
 use Rattle.c_pp.specs.Macros.{Macros, body_of, changed, Replaces, on_line, end, plain, macro}
 use Rattle.c_pp.specs.Expands.{Expanded, IsDrawn}
@@ -62,8 +62,8 @@ module _ (text : Text) (given : List Token) where
   drawn_from : {macros : Macros} {ts out : List Token} → AreFrom macros → Expanded text macros ts out → From ts → All (IsDrawn given) out
   drawn_from all x.end h = All-nil (IsDrawn given)
   drawn_from {macros} all (x.directive {hash = hash} {ts = ts} {words = words} {rest = rest} begins line o d) h =
-      let behind = subst From line.split (All-tail (Contains given) hash ts h) in
-      drawn_from (changed_from macros o (front words rest behind) all) d (back words rest behind)
+      let further = subst From line.split (All-tail (Contains given) hash ts h) in
+      drawn_from (changed_from macros o (front words rest further) all) d (back words rest further)
   drawn_from all (x.token {token = t} {ts = ts} {piece = piece} {out = out} begins r d) h =
       let there = All-head (Contains given) t ts h in
       All-append (IsDrawn given) (on_line t.line piece) out

@@ -11,3 +11,4 @@ pub mod Obeying
 pub mod Drawn
 pub mod Expanding
 pub mod Totality
+pub mod MeetLemmas

@@ -10,7 +10,7 @@ use Rattle.c_pp.specs.declared.directive.Directive.{Directive}
 use Rattle.c_pp.specs.declared.directive.Directive.TheVariants as says
 use Rattle.c_pp.specs.declared.error.PpError.{PpError}
 use Rattle.c_pp.specs.declared.error.PpError.TheVariants.{UnknownHeader, BadDirective}
-use Rattle.c_pp.specs.Names.{Text, Name, spelling, is_name, IsNamed}
+use Rattle.c_tokens.specs.Names.{Text, Name, spelling, is_name, IsNamed}
 use Rattle.c_pp.specs.Directives.{BeginsLine, IsLine, Definition, Obeys, Disobeys, IsInclude, is_header, touches, nothing, include, define, undef, header, other}
 use Rattle.c_pp.specs.Reading as reading
 
@@ -28,9 +28,9 @@ one_split (t ∷ a) [] x (u ∷ y) e i j m n = absurd (let h : u ≡ t = cc in l
 one_split (t ∷ a) (u ∷ b) x y e i j m n =
     let h : t ≡ u = cc in
     let l : a ++ x ≡ b ++ y = cc in
-    let behind = one_split a b x y l (All-tail (λ (token : Token). token.first ≡ false) t a i) (All-tail (λ (token : Token). token.first ≡ false) u b j) m n in
-    let p = behind.0 in
-    (cc, behind.1)
+    let further = one_split a b x y l (All-tail (λ (token : Token). token.first ≡ false) t a i) (All-tail (λ (token : Token). token.first ≡ false) u b j) m n in
+    let p = further.0 in
+    (cc, further.1)
 
 -- a line ends at one place
 pub one_line : {ts a b x y : List Token} → IsLine ts a x → IsLine ts b y → (a ≡ b) × (x ≡ y)
@@ -214,7 +214,7 @@ module _ (text : Text) where
     | unknown i s ↦ absurd cc
   ]
 
-  -- the name that a line is about, with what stands behind it
+  -- the name that a line is about, with what comes after it
   pub record IsAbout (words : List Token) (what : List Token → Option (List Token)) : Type 0 where
     pub word : Token
     pub name : Token

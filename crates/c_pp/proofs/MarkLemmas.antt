@@ -1,6 +1,6 @@
 -- Marks, and those of them that count.
 use Rattle.std.proofs.Common.{◌≡◌, ℕ, zero, suc, ◌+◌, ◌-◌, ◌<◌, ◌≤◌, List, [], ◌∷◌, length, map, Option, Some, None, true, false, get_or, replicate, refl, sym, ap, ◌∙◌, arith}
-use Rattle.std.specs.Prelude.{All, ◌==◌, slice_get, slice_set}
+use Rattle.std.specs.Prelude.{All, ◌==◌, slice_get, slice_set, unwrap_or}
 use Rattle.std.proofs.lemmas.Bool.{ne_eqb}
 use Rattle.std.proofs.lemmas.List.{map-set, length-map, set_past}
 use Rattle.std.proofs.lemmas.List.Elements.{All-head, All-tail}
@@ -10,7 +10,8 @@ use Rattle.c_tokens.specs.declared.token.Token.{Token}
 use Rattle.c_pp.specs.declared.marks.Mark.{Mark}
 use Rattle.c_pp.specs.declared.marks.Mark.TheVariants.{Open}
 use Rattle.c_pp.specs.declared.marks.Stamped.{Stamped}
-use Rattle.c_pp.specs.Marked.{in_force, held, mark_at}
+use Rattle.c_pp.specs.declared.marks.Marks.{Marks}
+use Rattle.c_pp.specs.Marked.{in_force, held, mark_at, is_met, marks_of, met_of}
 use Rattle.c_pp.specs.Directives.{last_end}
 
 same_count : (n : ℕ) → (n == n) ≡ true
@@ -118,3 +119,45 @@ set_elsewhere (m ∷ marks) zero mark zero apart = absurd (apart refl)
 set_elsewhere (m ∷ marks) zero mark (suc other) apart = refl
 set_elsewhere (m ∷ marks) (suc number) mark zero apart = refl
 set_elsewhere (m ∷ marks) (suc number) mark (suc other) apart = set_elsewhere marks number mark other (λ e. apart (ap suc e))
+
+-- ---- names that were met
+
+pub set_met : (changes : ℕ) (meetings : List ℕ) (number : ℕ) →
+    map (λ met. met == changes) (slice_set meetings number changes) ≡ slice_set (map (λ met. met == changes) meetings) number true
+set_met changes meetings number =
+    map-set (λ met. met == changes) meetings number changes ∙ ap (slice_set (map (λ met. met == changes) meetings) number) (same_count changes)
+
+pub met_beyond : (changes : ℕ) (meetings : List ℕ) (number : ℕ) → length meetings ≤ number →
+    map (λ met. met == changes) meetings ≡ slice_set (map (λ met. met == changes) meetings) number true
+met_beyond changes meetings number low =
+    let n : length (map (λ met. met == changes) meetings) ≡ length meetings = simp length-map in
+    sym (set_past (map (λ met. met == changes) meetings) number true (omega arith))
+
+pub none_met_made : (count : ℕ) → map (λ met. met == 1) (replicate count 0) ≡ replicate count false
+none_met_made zero = refl
+none_met_made (suc count) = ap (λ l. false ∷ l) (none_met_made count)
+
+-- what was met before an earlier change counts no more
+pub none_met_later : (changes : ℕ) (meetings : List ℕ) → All (λ (met : ℕ). met ≤ changes) meetings →
+    map (λ met. met == (changes + 1)) meetings ≡ map (λ _. false) (map (λ met. met == changes) meetings)
+none_met_later changes [] past = refl
+none_met_later changes (m ∷ meetings) past =
+    let low : m ≤ changes = All-head (λ (met : ℕ). met ≤ changes) m meetings past in
+    let other : (m == (changes + 1)) ≡ false = ne_eqb m (changes + 1) (λ e. omega arith) in
+    let rest = none_met_later changes meetings (All-tail (λ (met : ℕ). met ≤ changes) m meetings past) in
+    rw other (ap (λ l. false ∷ l) rest)
+
+pub met_there : (changes : ℕ) (meetings : List ℕ) (number met : ℕ) → number < length meetings → met ≡ get_or meetings number met →
+    (met == changes) ≡ is_met (map (λ met. met == changes) meetings) number
+met_there changes meetings number met low is =
+    sym (ap (λ o. unwrap_or o false) (slice_get-map (λ met. met == changes) meetings number ∙ ap (option_map (λ met. met == changes)) (slice_get_read meetings (length meetings) number met refl low is)))
+
+pub not_met_beyond : (changes : ℕ) (meetings : List ℕ) (number : ℕ) → length meetings ≤ number → false ≡ is_met (map (λ met. met == changes) meetings) number
+not_met_beyond changes meetings number low =
+    let n : length (map (λ met. met == changes) meetings) ≡ length meetings = simp length-map in
+    sym (ap (λ o. unwrap_or o false) (slice_get_past (map (λ met. met == changes) meetings) number (omega arith)))
+
+pub length-met_of : (marks : Marks) → length (met_of marks) ≡ length (marks_of marks)
+unfolding marks_of met_of
+length-met_of marks =
+    length-map marks.meetings.items (λ met. met == marks.changes) ∙ marks.alike ∙ sym (length-map marks.stamped.items (in_force marks.changes))

@@ -1,17 +1,21 @@
 -- Names are numbered in the order in which they come.
-use Rattle.std.proofs.Common.{◌≡◌, ℕ, zero, suc, ◌+◌, ◌<◌, ◌≤◌, List, [], ◌∷◌, ◌++◌, length, map, Option, Some, None, Bool, true, false, inl, inr, ◌⊎◌, refl, sym, ap, subst, ◌∙◌, arith, length-append}
-use Rattle.std.specs.Prelude.{slice_get, unwrap_or}
-use Rattle.std.specs.List.{list_any}
-use Rattle.std.specs.Str.{bytes_eq}
-use Rattle.std.proofs.lemmas.Option.{slice_get_within, slice_get-map}
-use Rattle.std.specs.Option.{option_map}
-use Rattle.std.specs.Prelude.{Vec, ◌||◌}
+use Rattle.std.proofs.Common.{◌≡◌, ℕ, zero, suc, ◌+◌, ◌<◌, ◌≤◌, List, [], ◌∷◌, ◌++◌, length, Option, Some, None, Bool, true, false, cond, inl, inr, ◌⊎◌, refl, sym, ap, subst, ◌∙◌, arith, length-append}
+use Rattle.std.specs.Prelude.{slice_get, unwrap_or, Vec}
 use Rattle.std.specs.declared.alloc.Global.{Global}
-use Rattle.indexmap.specs.IndexSet.{insert_key}
+use Rattle.std.specs.BTreeMap.{UpdatesBy, IsEmpty, btree_map_len}
+use Rattle.std.specs.Map.{KeepsOthers, IsKeyTest, AreApart, lookup}
+use Rattle.std.specs.Cmp.Lexicographic.{slice_cmp}
+use Rattle.std.specs.Ordering.{nat_cmp, is_eq}
+use Rattle.std.specs.Str.{bytes_eq}
+use Rattle.std.proofs.lemmas.Bool.{cases_Bool, cond-true, cond-false}
+use Rattle.std.proofs.lemmas.Cmp.{nat_list_eq_equiv, nat_list_cmp_total, eq_by_cmp_equiv}
+use Rattle.std.proofs.lemmas.Map.Text.{is_eq-slice_cmp}
+use Rattle.std.proofs.lemmas.Option.{slice_get_within}
 use Rattle.std.proofs.lemmas.Slice.Eq.{bytes_eq-Decides}
 use Rattle.c_tokens.specs.declared.token.Token.{Token}
-use Rattle.c_pp.specs.Names.{Text, Name, spelling, is_name}
+use Rattle.c_tokens.specs.Names.{Text, Name, spelling, is_name}
 use Rattle.c_pp.specs.Marked.{held}
+use Rattle.c_pp.specs.Numbering.{Known, number_in, Finds}
 use Rattle.c_pp.specs.Walks.{IsNumbered}
 
 module _ {X : Type 0} where
@@ -142,48 +146,83 @@ all_numbered text tokens index count numbers names past counted n = record {
   apart = λ k l low high same. n.apart k l (name_of names k) (get_within names k (omega arith)) (get_within names l (omega arith) ∙ ap (λ x. Some x) (sym same));
 }
 
--- ---- a name is put among the others
+-- ---- names in an ordered map
 
-abbrev pub same_bytes : Vec ℕ Global → Vec ℕ Global → Bool
-same_bytes x y = bytes_eq x.items y.items
+apart : (bs cs ks : List ℕ) → bytes_eq bs cs ≡ false → bytes_eq bs ks ≡ true → bytes_eq cs ks ≡ false
+apart bs cs ks n y = nat_list_eq_equiv.symm cs ks ∙ sym (nat_list_eq_equiv.congr bs ks cs y) ∙ n
 
-abbrev pub names_in : List (Vec ℕ Global) → List Name
-names_in keys = map (λ (v : Vec ℕ Global). v.items) keys
+apart_in_order : (bs cs ks : List ℕ) → bytes_eq bs cs ≡ false → is_eq (slice_cmp nat_cmp bs ks) ≡ true → is_eq (slice_cmp nat_cmp cs ks) ≡ false
+apart_in_order bs cs ks n y = is_eq-slice_cmp cs ks ∙ apart bs cs ks n (sym (is_eq-slice_cmp bs ks) ∙ y)
 
-any_there : (keys : List (Vec ℕ Global)) (value : Vec ℕ Global) (k : ℕ) → slice_get (names_in keys) k ≡ Some value.items → list_any (same_bytes value) keys ≡ true
-any_there [] value k h = absurd cc
-any_there (x ∷ keys) value zero h =
-    let e : value.items ≡ x.items = (let f : x.items ≡ value.items = cc in sym f) in
-    let y = (bytes_eq-Decides value.items x.items).1 e in
-    rw y refl
-any_there (x ∷ keys) value (suc k) h = or_right (same_bytes value x) (list_any (same_bytes value) keys) (any_there keys value k h)
-  where
-    or_right : (a b : Bool) → b ≡ true → (a || b) ≡ true
-    or_right true b h = refl
-    or_right false b h = h
+other_entries : {K X : Type 0} (eq : K → K → Bool) (test : K → Bool) (old new : List (K × X)) → KeepsOthers eq test old new →
+    (other : K → Bool) → IsKeyTest eq other → AreApart test other → lookup other new ≡ lookup other old
+unfolding KeepsOthers
+other_entries eq test old new h = h
 
-names_push : (keys : List (Vec ℕ Global)) (value : Vec ℕ Global) → names_in (keys ++ value ∷ []) ≡ names_in keys ++ value.items ∷ []
-names_push [] value = refl
-names_push (k ∷ keys) value = ap (λ l. k.items ∷ l) (names_push keys value)
+-- after a change the map has this at the name, and at other names what it had
+pub number_in-update : (old new : Known) (name : Name) (what : Option ℕ) →
+    UpdatesBy (λ (x y : Vec ℕ Global). slice_cmp nat_cmp x.items y.items) (λ k. slice_cmp nat_cmp name k.items) old new what →
+    (other : Name) → number_in new other ≡ cond (bytes_eq name other) what (number_in old other)
+number_in-update old new name what h other = elim (cases_Bool (bytes_eq name other)) [
+  | inl y ↦ subst (λ l. number_in new l ≡ what) ((bytes_eq-Decides name other).0 y) h.1 ∙ sym (cond-true (bytes_eq name other) what (number_in old other) y)
+  | inr n ↦ other_entries _ _ _ _ h.3 _ (λ x y. (eq_by_cmp_equiv nat_list_cmp_total).congr other x.items y.items) (λ k. apart_in_order name other k.items n)
+      ∙ sym (cond-false (bytes_eq name other) what (number_in old other) n)
+]
 
-pub number_named : (text : Text) (tokens : List Token) (index : ℕ) (numbers : List (Option ℕ)) (keys new : List (Vec ℕ Global)) (value found : Vec ℕ Global) (token : Token) (number : ℕ) →
-    slice_get tokens index ≡ Some token → is_name token.kind ≡ true → value.items ≡ spelling text token →
-    new ≡ insert_key same_bytes keys value → slice_get new number ≡ Some found → same_bytes value found ≡ true →
-    AreNumbered text tokens index numbers (names_in keys) → AreNumbered text tokens (index + 1) (numbers ++ Some number ∷ []) (names_in new)
-number_named text tokens index numbers keys new value found token number there named is put got same n = by (list_any (same_bytes value) keys) refl
-  where
-    stands : slice_get (names_in new) number ≡ Some (spelling text token)
-    stands = slice_get-map (λ (v : Vec ℕ Global). v.items) new number ∙ ap (option_map (λ (v : Vec ℕ Global). v.items)) got ∙ ap (λ l. Some l) (sym ((bytes_eq-Decides value.items found.items).0 same) ∙ is)
+-- the map has the number of each of these names
+pub record IsNaming (known : Known) (names : List Name) : Type 0 where
+  pub len : btree_map_len known ≡ length names
+  pub held_at : (name : Name) (number : ℕ) → number_in known name ≡ Some number → slice_get names number ≡ Some name
+  pub absent : (name : Name) → number_in known name ≡ None → (number : ℕ) → slice_get names number ≡ Some name → ⊥
 
-    by : (among : Bool) → list_any (same_bytes value) keys ≡ among → AreNumbered text tokens (index + 1) (numbers ++ Some number ∷ []) (names_in new)
-    by true e =
-        let old : new ≡ keys = put ∙ rw e refl in
-        subst (λ (l : List (Vec ℕ Global)). AreNumbered text tokens (index + 1) (numbers ++ Some number ∷ []) (names_in l)) (sym old)
-        (number_known text tokens index numbers (names_in keys) token there n number named (ap (λ l. slice_get (names_in l) number) (sym old) ∙ stands))
-    by false e =
-        let more : new ≡ keys ++ value ∷ [] = put ∙ rw e refl in
-        let names : names_in new ≡ names_in keys ++ spelling text token ∷ [] = ap names_in more ∙ names_push keys value ∙ ap (λ w. names_in keys ++ w ∷ []) is in
-        subst (λ (l : List Name). AreNumbered text tokens (index + 1) (numbers ++ Some number ∷ []) l) (sym names)
-        (number_new text tokens index numbers (names_in keys) token there n number named
-        (λ k h. let y = any_there keys value k (h ∙ ap (λ l. Some l) (sym is)) in absurd cc)
-        (ap (λ l. slice_get l number) (sym names) ∙ stands))
+pub naming_none : (known : Known) → IsEmpty known → IsNaming known []
+naming_none known empty = record {
+  len = ap length empty;
+  held_at = λ name number is. absurd (let none : number_in known name ≡ None = rw empty refl in cc);
+  absent = λ name none number is. cc;
+}
+
+naming_new : (old new : Known) (name : Name) (number : ℕ) (names : List Name) → IsNaming old names → number ≡ btree_map_len old → btree_map_len new ≡ btree_map_len old + 1 →
+    ((other : Name) → number_in new other ≡ cond (bytes_eq name other) (Some number) (number_in old other)) → IsNaming new (names ++ name ∷ [])
+naming_new old new name number names m next len change = record {
+  len = (let l = length-append names (name ∷ []) in let o = m.len in omega arith);
+  held_at = λ other k is. elim (cases_Bool (bytes_eq name other)) [
+    | inl y ↦ (
+        let same : name ≡ other = (bytes_eq-Decides name other).0 y in
+        let found : Some number ≡ Some k = sym (cond-true (bytes_eq name other) (Some number) (number_in old other) y) ∙ sym (change other) ∙ is in
+        let f : number ≡ k = cc in
+        let place : k ≡ length names = (let o = m.len in omega arith) in
+        ap (slice_get (names ++ name ∷ [])) place ∙ get_new names name ∙ ap (λ n. Some n) same)
+    | inr n ↦ get_old names name other k (m.held_at other k (sym (cond-false (bytes_eq name other) (Some number) (number_in old other) n) ∙ sym (change other) ∙ is))
+  ];
+  absent = λ other none k is. elim (cases_Bool (bytes_eq name other)) [
+    | inl y ↦ (let found : Some number ≡ None = sym (cond-true (bytes_eq name other) (Some number) (number_in old other) y) ∙ sym (change other) ∙ none in cc)
+    | inr n ↦ elim (get_cases names name other k is) [
+      | inl before ↦ m.absent other (sym (cond-false (bytes_eq name other) (Some number) (number_in old other) n) ∙ sym (change other) ∙ none) k before
+      | inr (e, same) ↦ (let yes = (bytes_eq-Decides name other).1 same in cc)
+    ]
+  ];
+}
+
+-- the tokens before `index` are numbered as the map says
+pub record AreKnown (text : Text) (tokens : List Token) (index : ℕ) (numbers : List (Option ℕ)) (known : Known) : Type 0 where
+  pub names : List Name
+  pub numbered : AreNumbered text tokens index numbers names
+  pub naming : IsNaming known names
+
+pub known_named : (text : Text) (tokens : List Token) (index number : ℕ) (numbers : List (Option ℕ)) (old new : Known) (name : Name) (token : Token) → slice_get tokens index ≡ Some token →
+    is_name token.kind ≡ true → name ≡ spelling text token → Finds old new name number → AreKnown text tokens index numbers old →
+    AreKnown text tokens (index + 1) (numbers ++ Some number ∷ []) new
+known_named text tokens index number numbers old new name token there named is (inl (has, same)) k = record {
+  names = k.names;
+  numbered = number_known text tokens index numbers k.names token there k.numbered number named (k.naming.held_at name number has ∙ ap (λ n. Some n) is);
+  naming = subst (λ (m : Known). IsNaming m k.names) (sym same) k.naming;
+}
+known_named text tokens index number numbers old new name token there named is (inr (none, next, len, change)) k =
+    let place : number ≡ length k.names = next ∙ k.naming.len in
+    record {
+      names = k.names ++ spelling text token ∷ [];
+      numbered = number_new text tokens index numbers k.names token there k.numbered number named
+          (λ i h. k.naming.absent name none i (h ∙ ap (λ n. Some n) (sym is))) (ap (slice_get (k.names ++ spelling text token ∷ [])) place ∙ get_new k.names (spelling text token));
+      naming = subst (λ (n : Name). IsNaming new (k.names ++ n ∷ [])) is (naming_new old new name number k.names k.naming next len change);
+    }

@@ -7,7 +7,7 @@ use Rattle.c_tokens.specs.declared.token.Token.{Token}
 use Rattle.c_pp.specs.declared.output.Output.{Output}
 use Rattle.c_pp.specs.declared.span.Span.{Span}
 use Rattle.c_pp.specs.Macros.{on_line}
-use Rattle.c_pp.specs.Expands.{max_tokens}
+use Rattle.c_tokens.specs.Limits.{max_tokens}
 use Rattle.c_pp.specs.Walks.{Holds, StandsAt, IsPart}
 use Rattle.c_pp.proofs.Parts.{part_same, part_more, slice_get_before}
 use Rattle.c_pp.proofs.Replacing.{on_line-append, on_line-again, length-on_line}

@@ -79,12 +79,12 @@ module _ {X : Type 0} where
       let n : suc e - suc s ≡ e - s = omega arith in
       ap (λ k. take k (drop s (xs ++ ys))) n ∙ part_before xs ys s e (omega arith) ∙ ap (λ k. take k (drop s xs)) (sym n)
 
-  -- all that stands behind the first of two lists
-  pub part_behind : (xs ys : List X) → slice_range (xs ++ ys) (length xs) (length (xs ++ ys)) ≡ ys
-  part_behind [] ys = let n : length ys - 0 ≡ length ys = omega arith in take_all (length ys - 0) ys (omega arith)
-  part_behind (x ∷ xs) ys =
+  -- all that comes after the first of two lists
+  pub part_after : (xs ys : List X) → slice_range (xs ++ ys) (length xs) (length (xs ++ ys)) ≡ ys
+  part_after [] ys = let n : length ys - 0 ≡ length ys = omega arith in take_all (length ys - 0) ys (omega arith)
+  part_after (x ∷ xs) ys =
       let n : suc (length (xs ++ ys)) - suc (length xs) ≡ length (xs ++ ys) - length xs = omega arith in
-      ap (λ k. take k (drop (length xs) (xs ++ ys))) n ∙ part_behind xs ys
+      ap (λ k. take k (drop (length xs) (xs ++ ys))) n ∙ part_after xs ys
 
   pub slice_get_before : (xs ys : List X) (at : ℕ) → at < length xs → slice_get (xs ++ ys) at ≡ slice_get xs at
   slice_get_before [] ys at h = absurd (omega arith)

@@ -2,7 +2,7 @@
 use Rattle.std.proofs.Common.{◌≡◌, ℕ, zero, suc, max, ◌<◌, ◌≤◌, List, [], ◌∷◌, ◌++◌, length, Some, refl, sym, ap, subst, ◌∙◌, arith, ◌⊎◌, inl, inr, append_assoc, append-nil}
 use Rattle.std.specs.Prelude.{Contains}
 use Rattle.c_tokens.specs.declared.token.Token.{Token}
-use Rattle.c_pp.specs.Names.{Text, Name, spelling}
+use Rattle.c_tokens.specs.Names.{Text, Name, spelling}
 use Rattle.c_pp.specs.Macros.{Macros, body_of, IsMacro, IsPlain, Replaces, Loops, on_line, end, plain, macro, here, within, later}
 use Rattle.c_pp.specs.Walks.{Yields}
 use Rattle.c_pp.specs.Walks as w
@@ -57,10 +57,10 @@ module _ (text : Text) (macros : Macros) where
   replaces_one (plain {token = t} i d) (plain j e) = ap (λ l. t ∷ l) (replaces_one d e)
   replaces_one (plain {token = t} i d) (macro {body = body} m free e after) = absurd (both_absurd t body m i)
   replaces_one (macro {token = t} {body = body} m free d after) (plain i e) = absurd (both_absurd t body m i)
-  replaces_one {busy = busy} (macro {token = t} {body = body} {inner = inner} {out = out} m free d after) (macro {body = other} {inner = again} {out = rest} n free_too e behind) =
+  replaces_one {busy = busy} (macro {token = t} {body = body} {inner = inner} {out = out} m free d after) (macro {body = other} {inner = again} {out = rest} n free_too e second_after) =
       let same = one_body t other body n m in
       let first : inner ≡ again = replaces_one d (subst (λ (l : List Token). Replaces text macros (spelling text t ∷ busy) l again) same e) in
-      let second : out ≡ rest = replaces_one after behind in
+      let second : out ≡ rest = replaces_one after second_after in
       cc
 
   pub not_loops : {busy : List Name} {ts out : List Token} → Replaces text macros busy ts out → Loops text macros busy ts → ⊥
@@ -107,13 +107,13 @@ module _ (text : Text) (macros : Macros) where
   one_depth (w.plain i d) (w.plain j e) same = one_depth d e cc
   one_depth (w.plain {token = t} i d) (w.macro {token = u} {body = body} m e after) same = absurd (plain_absurd u t body m i cc)
   one_depth (w.macro {token = t} {body = body} m d after) (w.plain {token = u} i e) same = absurd (plain_absurd t u body m i cc)
-  one_depth (w.macro {token = t} {body = body} m d after) (w.macro {token = u} {body = other} n e behind) same =
+  one_depth (w.macro {token = t} {body = body} m d after) (w.macro {token = u} {body = other} n e second_after) same =
       let tokens : t ≡ u = cc in
       let x = m.1 in
       let y = n.1 in
       let bodies : body ≡ other = cc in
       let first = one_depth d e bodies in
-      let second = one_depth after behind cc in
+      let second = one_depth after second_after cc in
       cc
 
   -- the macro of this name is at least so deep

@@ -8,11 +8,12 @@ use Rattle.std.proofs.lemmas.Slice.Eq.{bytes_eq-Decides}
 use Rattle.c_tokens.specs.declared.token.Token.{Token}
 use Rattle.c_pp.specs.declared.error.PpError.{PpError}
 use Rattle.c_pp.specs.declared.error.PpError.TheVariants.{MacroLoop, TooManyTokens}
-use Rattle.c_pp.specs.Names.{Text, Name, spelling, is_name}
+use Rattle.c_tokens.specs.Names.{Text, Name, spelling, is_name}
 use Rattle.c_pp.specs.Directives.{Definition, begins_directive, Obeys}
 use Rattle.c_pp.specs.Macros.{Macros, body_of, changed, Replaces, Loops, on_line, plain, macro, here, within, later}
 use Rattle.c_pp.specs.Macros as m
-use Rattle.c_pp.specs.Expands.{Expanded, Refuses, Expands, IsRefused, max_tokens, end, directive, token, bad, loop, full}
+use Rattle.c_tokens.specs.Limits.{max_tokens}
+use Rattle.c_pp.specs.Expands.{Expanded, HasPpFault, Expands, IsPpFault, end, directive, token, bad, loop, full}
 use Rattle.c_pp.specs.Reading as reading
 use Rattle.c_pp.proofs.Lines.{line_is, judged}
 use Rattle.c_pp.proofs.Replacing.{none_contained, first_contained, later_contained, contained_cases, length-on_line}
@@ -82,8 +83,8 @@ less_free (d ∷ macros) name busy body is apart = elim (cases_Bool (bytes_eq d.
       let rest = no_freer macros name busy in
       omega arith)
   | inr n ↦ (
-      let behind : body_of macros name ≡ Some body = (let e : body_of (d ∷ macros) name ≡ body_of macros name = rw n refl in sym e ∙ is) in
-      let rest = less_free macros name busy body behind apart in
+      let further : body_of macros name ≡ Some body = (let e : body_of (d ∷ macros) name ≡ body_of macros name = rw n refl in sym e ∙ is) in
+      let rest = less_free macros name busy body further apart in
       let first = weight_less (bytes_eq name d.0) (among busy d.0) in
       omega arith)
 ]
@@ -134,7 +135,7 @@ module _ (text : Text) (macros : Macros) where
 
 module _ (text : Text) where
   abbrev Answer : Macros → ℕ → List Token → Type 0
-  Answer macros room ts = ((out : List Token) × Expanded text macros ts out × (length out ≤ room)) ⊎ ((e : PpError) × Refuses text macros room ts e)
+  Answer macros room ts = ((out : List Token) × Expanded text macros ts out × (length out ≤ room)) ⊎ ((e : PpError) × HasPpFault text macros room ts e)
 
   at_directive : (macros : Macros) (room : ℕ) (t : Token) (ts : List Token) (change : Option Definition) → begins_directive t ≡ true →
       Obeys text (take (reading.line_len ts) ts) change → Answer (changed change macros) room (drop (reading.line_len ts) ts) → Answer macros room (t ∷ ts)
@@ -165,7 +166,7 @@ module _ (text : Text) where
     ]
   ]
 
-pub one_of_both : (text : Text) (ts : List Token) → ((out : List Token) × Expands text ts out) ⊎ ((e : PpError) × IsRefused text ts e)
+pub one_of_both : (text : Text) (ts : List Token) → ((out : List Token) × Expands text ts out) ⊎ ((e : PpError) × IsPpFault text ts e)
 one_of_both text ts = elim (answer text (length ts) [] max_tokens ts (omega arith)) [
   | inl (out, d, few) ↦ inl (out, record { expanded = d; few = few })
   | inr r ↦ inr r

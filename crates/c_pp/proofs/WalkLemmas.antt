@@ -11,7 +11,7 @@ use Rattle.c_pp.specs.declared.marks.Mark.TheVariants as mark
 use Rattle.c_pp.specs.declared.output.Output.{Output}
 use Rattle.c_pp.specs.declared.replacement.Macro.{Macro}
 use Rattle.c_pp.specs.declared.span.Span.{Span}
-use Rattle.c_pp.specs.Names.{Text, Name, spelling}
+use Rattle.c_tokens.specs.Names.{Text, Name, spelling}
 use Rattle.c_pp.specs.Macros.{Macros, body_of, IsPlain, on_line}
 use Rattle.c_pp.specs.Marked.{held, mark_at}
 use Rattle.c_pp.specs.Walks.{IsNumbered, IsSeen, IsUse, Yields, Holds, IsPart, StandsAt, IsKnown, Knows, part, macro_of, macro_at}

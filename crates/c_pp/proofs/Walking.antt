@@ -10,13 +10,13 @@ use Rattle.c_pp.specs.declared.replacement.Macro.{Macro}
 use Rattle.c_pp.specs.declared.replacement.Open.{Open}
 use Rattle.c_pp.specs.declared.replacement.Stop.TheVariants.{End, Enter, Loop}
 use Rattle.c_pp.specs.declared.span.Span.{Span}
-use Rattle.c_pp.specs.Names.{Text, Name, spelling}
+use Rattle.c_tokens.specs.Names.{Text, Name, spelling}
 use Rattle.c_pp.specs.Macros.{Macros, body_of, IsMacro, Loops, on_line, here, within, later}
-use Rattle.c_pp.specs.Expands.{max_tokens}
+use Rattle.c_tokens.specs.Limits.{max_tokens}
 use Rattle.c_pp.specs.Marked.{mark_at}
 use Rattle.c_pp.specs.Walks.{IsUse, Yields, Holds, IsPart, StandsAt, IsKnown, Knows, AreClosed, PutsOut, IsReplaced, part}
 use Rattle.c_pp.specs.Walks as w
-use Rattle.c_pp.proofs.Parts.{part_split, part_first, part_behind}
+use Rattle.c_pp.proofs.Parts.{part_split, part_first, part_after}
 use Rattle.c_pp.proofs.Replacing.{none_contained, first_contained, later_contained, contained_cases, on_line-append, yields_append, yields_macro}
 use Rattle.c_pp.proofs.OutputLemmas.{whole, not_over}
 use Rattle.c_pp.proofs.WalkLemmas.{knows_grown}
@@ -231,7 +231,7 @@ module _ (text : Text) (macros : Macros) (name : ℕ → Name) (tokens : List To
           let e : end ≡ length (made ++ on_line line inner) = ends few in
           record {
             line = line;
-            same = ap (λ k. slice_range (made ++ on_line line inner) k end) s ∙ ap (λ k. slice_range (made ++ on_line line inner) (length made) k) e ∙ part_behind made (on_line line inner);
+            same = ap (λ k. slice_range (made ++ on_line line inner) k end) s ∙ ap (λ k. slice_range (made ++ on_line line inner) (length made) k) e ∙ part_after made (on_line line inner);
             ordered = omega arith;
             within = omega arith;
           }
@@ -293,14 +293,14 @@ module _ (text : Text) (macros : Macros) (name : ℕ → Name) (tokens : List To
 
   -- ---- a loop
 
-  loops_behind : {busy : List Name} (a : List Token) {b : List Token} → Loops text macros busy b → Loops text macros busy (a ++ b)
-  loops_behind [] l = l
-  loops_behind (t ∷ a) l = later (loops_behind a l)
+  loops_after : {busy : List Name} (a : List Token) {b : List Token} → Loops text macros busy b → Loops text macros busy (a ++ b)
+  loops_after [] l = l
+  loops_after (t ∷ a) l = later (loops_after a l)
 
   loops_around : {opens : List Open} {busy : List Name} {around made : List Token} → Awaits opens busy around made → Loops text macros busy around → Loops text macros [] all
   loops_around root l = l
   loops_around (entered opens busy around made done piece body o token awaits split yields is_macro named counted begins) l =
-      loops_around awaits (subst (λ (x : List Token). Loops text macros busy x) (sym split) (loops_behind done (within is_macro l)))
+      loops_around awaits (subst (λ (x : List Token). Loops text macros busy x) (sym split) (loops_after done (within is_macro l)))
 
   pub walk_loops : (marks : List (Option Mark)) (opens : List Open) (span : Span) (old output : Output) (token : Token) → all ≡ token ∷ [] →
       (b : Walking marks opens span old) → PutsOut text macros name tokens marks count span line (b.made ++ on_line line b.piece) output Loop → Loops text macros [] (token ∷ [])
@@ -313,4 +313,4 @@ module _ (text : Text) (macros : Macros) (name : ℕ → Name) (tokens : List To
       let busy : Contains b.busy (spelling text found_use.token) = subst (λ (n : Name). Contains b.busy n) (sym found_use.named) (b.opened found.number stopped.2.2).1 in
       subst (λ (l : List Token). Loops text macros [] l) is
       (loops_around b.awaits (subst (λ (x : List Token). Loops text macros b.busy x) (sym split)
-      (loops_behind (b.done ++ slice_range tokens span.start put.at) (here found_use.is_macro busy))))
+      (loops_after (b.done ++ slice_range tokens span.start put.at) (here found_use.is_macro busy))))

@@ -8,7 +8,7 @@ use Rattle.c_tokens.specs.declared.kind.Mark.TheVariants.{Hash, LeftParen}
 use Rattle.c_tokens.specs.declared.token.Token.{Token}
 use Rattle.c_pp.specs.declared.error.PpError.{PpError}
 use Rattle.c_pp.specs.declared.error.PpError.TheVariants.{UnknownHeader, BadDirective}
-use Rattle.c_pp.specs.Names.{Text, Name, written, spelling, is_name, IsNamed}
+use Rattle.c_tokens.specs.Names.{Text, Name, written, spelling, is_name, IsNamed}
 
 abbrev pub is_hash : Kind → Bool
 is_hash (Punctuator Hash) = true
@@ -48,7 +48,7 @@ abbrev pub is_header : Text → List Token → Bool
 is_header text [] = false
 is_header text (token ∷ ts) = list_any (λ header. bytes_eq (written text token.start (last_end token.end ts)) header) headers
 
--- nothing stands between the name and a parenthesis behind it: a macro with parameters (C11 6.10.3p10)
+-- nothing stands between the name and a parenthesis after it: a macro with parameters (C11 6.10.3p10)
 abbrev pub touches : Text → Token → List Token → Bool
 touches text name [] = false
 touches text name (token ∷ ts) = is_left_paren token.kind && (length (written text name.end token.start) == 0)
@@ -57,7 +57,7 @@ touches text name (token ∷ ts) = is_left_paren token.kind && (length (written 
 abbrev pub Definition : Type 0
 Definition = Name × Option (List Token)
 
--- `Obeys text words change`: what the words behind a `#` say (C11 6.10.2, 6.10.3p9, 6.10.3.5p2 and 6.10.7). A header that is
+-- `Obeys text words change`: what the words after a `#` say (C11 6.10.2, 6.10.3p9, 6.10.3.5p2 and 6.10.7). A header that is
 -- known changes nothing.
 pub data Obeys (text : Text) : List Token → Option Definition → Type 0 where
   nothing : Obeys text [] None

@@ -2,7 +2,7 @@
 use Rattle.std.specs.Prelude.{◌≡◌, ℕ, true, List, [], ◌∷◌, ◌++◌, map, Option, Some, None, Contains, if◌then◌else◌}
 use Rattle.std.specs.Str.{bytes_eq}
 use Rattle.c_tokens.specs.declared.token.Token.{Token}
-use Rattle.c_pp.specs.Names.{Text, Name, spelling, is_name}
+use Rattle.c_tokens.specs.Names.{Text, Name, spelling, is_name}
 use Rattle.c_pp.specs.Directives.{Definition}
 
 -- the macros in force: what was said of names, the last first

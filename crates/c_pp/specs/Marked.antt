@@ -1,5 +1,5 @@
--- The marks that count.
-use Rattle.std.specs.Prelude.{ℕ, ◌==◌, List, map, Option, Some, None, slice_get, if◌then◌else◌}
+-- The marks that count, and the names that were met.
+use Rattle.std.specs.Prelude.{ℕ, Bool, true, false, ◌==◌, List, map, Option, Some, None, unwrap_or, slice_get, slice_set, if◌then◌else◌}
 use Rattle.c_pp.specs.declared.marks.Mark.{Mark}
 use Rattle.c_pp.specs.declared.marks.Stamped.{Stamped}
 use Rattle.c_pp.specs.declared.marks.Marks.{Marks}
@@ -17,3 +17,14 @@ held None = None
 
 abbrev pub mark_at : List (Option Mark) → ℕ → Option Mark
 mark_at marks number = held (slice_get marks number)
+
+-- by number, whether the name was met since marks were last taken back
+unfoldable pub met_of : Marks → List Bool
+met_of marks = map (λ met. met == marks.changes) marks.meetings.items
+
+abbrev pub is_met : List Bool → ℕ → Bool
+is_met met number = unwrap_or (slice_get met number) false
+
+abbrev pub met_also : List Bool → Option ℕ → List Bool
+met_also met None = met
+met_also met (Some number) = slice_set met number true

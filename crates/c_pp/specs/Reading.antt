@@ -1,11 +1,11 @@
--- What a line behind a `#` says, as a function.
+-- What a line after a `#` says, as a function.
 use Rattle.std.specs.Prelude.{ℕ, not, ◌&&◌, List, [], ◌∷◌, codes, if◌then◌else◌}
 use Rattle.std.specs.List.{prefix_len}
 use Rattle.std.specs.Str.{bytes_eq}
 use Rattle.c_tokens.specs.declared.token.Token.{Token}
 use Rattle.c_pp.specs.declared.directive.Directive.{Directive}
 use Rattle.c_pp.specs.declared.directive.Directive.TheVariants.{Nothing, Define, Undefine, UnknownHeader, Unknown}
-use Rattle.c_pp.specs.Names.{Text, Name, spelling, is_name}
+use Rattle.c_tokens.specs.Names.{Text, Name, spelling, is_name}
 use Rattle.c_pp.specs.Directives.{is_header, touches}
 
 -- how many of the tokens stand before the next that is first of its line

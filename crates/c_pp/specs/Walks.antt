@@ -1,5 +1,5 @@
 -- What the code keeps while macros are replaced.
-use Rattle.std.specs.Prelude.{◌≡◌, ℕ, ◌+◌, ◌<◌, ◌≤◌, true, false, List, [], ◌∷◌, ◌++◌, length, Option, Some, None, slice_get, slice_range, MatchBool}
+use Rattle.std.specs.Prelude.{◌≡◌, ℕ, ◌+◌, ◌<◌, ◌≤◌, ◌⊎◌, Bool, true, false, List, [], ◌∷◌, ◌++◌, length, Option, Some, None, slice_get, slice_range, MatchBool}
 use Rattle.std.specs.Option.{option_map}
 use Rattle.c_tokens.specs.declared.token.Token.{Token}
 use Rattle.c_pp.specs.declared.marks.Mark.{Mark}
@@ -7,13 +7,14 @@ use Rattle.c_pp.specs.declared.marks.Mark.TheVariants as mark
 use Rattle.c_pp.specs.declared.numbers.Numbered.{Numbered}
 use Rattle.c_pp.specs.declared.output.Output.{Output}
 use Rattle.c_pp.specs.declared.replacement.Macro.{Macro}
+use Rattle.c_pp.specs.declared.replacement.Open.{Open}
 use Rattle.c_pp.specs.declared.replacement.Stop.{Stop}
 use Rattle.c_pp.specs.declared.replacement.Stop.TheVariants.{End, Enter, Loop}
 use Rattle.c_pp.specs.declared.span.Span.{Span}
-use Rattle.c_pp.specs.Names.{Text, Name, spelling, is_name}
+use Rattle.c_tokens.specs.Names.{Text, Name, spelling, is_name}
 use Rattle.c_pp.specs.Macros.{Macros, body_of, IsMacro, IsPlain, on_line}
-use Rattle.c_pp.specs.Expands.{max_tokens}
-use Rattle.c_pp.specs.Marked.{held, mark_at}
+use Rattle.c_tokens.specs.Limits.{max_tokens}
+use Rattle.c_pp.specs.Marked.{held, mark_at, is_met}
 
 -- ---- names by number
 
@@ -91,6 +92,50 @@ Knows text macros name marks made = (number : ℕ) (span : Span) → mark_at mar
 -- no macro is being replaced
 abbrev pub AreClosed : List (Option Mark) → Type 0
 AreClosed marks = (number : ℕ) → mark_at marks number ≡ Some mark.Open → ⊥
+
+-- ---- names that were met
+
+-- the names among the tokens from the one place on, before the other, were met
+abbrev pub AreMet : List Token → List (Option ℕ) → ℕ → List Bool → ℕ → ℕ → Type 0
+AreMet tokens numbers count met from to =
+    (at number : ℕ) → from ≤ at → at < to → at < length tokens → held (slice_get numbers at) ≡ Some number → number < count → is_met met number ≡ true
+
+-- each macro that has a mark was met, and of those that were met and are known all names of their bodies were met
+pub record Covers (tokens : List Token) (numbers : List (Option ℕ)) (bodies : List (Option Span)) (marks : List (Option Mark)) (met : List Bool) : Type 0 where
+  pub marked : (number : ℕ) (found : Mark) → mark_at marks number ≡ Some found → is_met met number ≡ true
+  pub entered : (number : ℕ) (body : Span) → is_met met number ≡ true → held (slice_get bodies number) ≡ Some body → mark_at marks number ≡ None → ⊥
+  pub known : (number : ℕ) (body there : Span) → mark_at marks number ≡ Some (mark.Known there) → held (slice_get bodies number) ≡ Some body →
+      AreMet tokens numbers (length bodies) met body.start body.end
+
+-- the names before the rest of the macro's body were met
+pub record IsRead (tokens : List Token) (numbers : List (Option ℕ)) (bodies : List (Option Span)) (met : List Bool) (number : ℕ) (rest : Span) : Type 0 where
+  pub own : is_met met number ≡ true
+  pub ends : (body : Span) → held (slice_get bodies number) ≡ Some body → body.end ≡ rest.end
+  pub before : (body : Span) → held (slice_get bodies number) ≡ Some body → AreMet tokens numbers (length bodies) met body.start rest.start
+
+-- of the macros that are being replaced each is read up to the next one's name, and the last up to the span
+abbrev pub AreRead : List Token → List (Option ℕ) → List (Option Span) → List Bool → Span → List Open → Type 0
+AreRead tokens numbers bodies met span [] = Unit {0}
+AreRead tokens numbers bodies met span (o ∷ []) = IsRead tokens numbers bodies met o.number span
+AreRead tokens numbers bodies met span (o ∷ p ∷ opens) =
+    IsRead tokens numbers bodies met o.number p.rest × AreRead tokens numbers bodies met span (p ∷ opens)
+
+-- where reading the span came to a stop
+abbrev pub ReadsUpTo : List Token → List (Option ℕ) → List (Option Span) → List Bool → Span → Stop → Type 0
+ReadsUpTo tokens numbers bodies met span End = AreMet tokens numbers (length bodies) met span.start span.end
+ReadsUpTo tokens numbers bodies met span (Enter found rest) =
+    (rest.end ≡ span.end) × (held (slice_get bodies found.number) ≡ Some found.body)
+    × ((at : ℕ) × (rest.start ≡ at + 1) × (held (slice_get numbers at) ≡ Some found.number) × AreMet tokens numbers (length bodies) met span.start at)
+ReadsUpTo tokens numbers bodies met span Loop = Unit {0}
+
+-- no more names were met than before but for those of no macros
+pub record MeetsMore (bodies : List (Option Span)) (marks : List (Option Mark)) (met more : List Bool) : Type 0 where
+  pub grown : (number : ℕ) → is_met met number ≡ true → is_met more number ≡ true
+  pub plain : (number : ℕ) → is_met more number ≡ true → (is_met met number ≡ true) ⊎ (held (slice_get bodies number) ≡ None)
+
+-- each macro that has a mark was met
+abbrev pub AreMarkedMet : List (Option Mark) → List Bool → Type 0
+AreMarkedMet marks met = (number : ℕ) (found : Mark) → mark_at marks number ≡ Some found → is_met met number ≡ true
 
 -- ---- steps
 

@@ -1,4 +1,4 @@
-//! What the line behind a `#` says (C11 6.10).
+//! What the line after a `#` says (C11 6.10).
 
 ghost use Rattle.std.specs.Prelude.{◌≡◌, ◌+◌, ◌≤◌, IfOk, length, drop};
 ghost use Rattle.c_pp.specs.Directives as spec;
@@ -6,11 +6,10 @@ ghost use Rattle.c_pp.specs.Reading as reading;
 ghost use Rattle.std.specs.List.{list_any};
 ghost use Rattle.std.specs.Str.{bytes_eq};
 
-use crate::spelling::{is_name, spelling, written};
-use c_tokens::{Kind, Mark, Token};
+use c_tokens::{Kind, Mark, Token, is_name, spelling, written};
 use std::alloc::{AllocError, Global};
 
-/// What a directive says. The name that is defined or given up is the second word behind the `#`, and a body is all behind it.
+/// What a directive says. The name that is defined or given up is the second word after the `#`, and a body is all after it.
 #[derive(Clone, Copy, Debug)]
 pub enum Directive {
     Nothing,
@@ -118,7 +117,7 @@ fn undef(words: &[Token]) -> Directive
     }
 }
 
-/// What the words behind a `#` say.
+/// What the words after a `#` say.
 #[tactic(auto, unfolding(crate::specs::Reading::said))]
 pub fn read_line(alloc: Global, text: &[u8], words: &[Token]) -> Result<Directive, AllocError>
     ensures { IfOk result (λ said. said ≡ reading.said text.now words.now) }

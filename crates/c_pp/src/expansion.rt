@@ -3,14 +3,15 @@
 ghost use Rattle.std.specs.Prelude.{◌≡◌, ◌⊎◌, ℕ, ◌+◌, ◌<◌, ◌≤◌, List, length, All, alloc_error, IfOk, IfErr, MatchResult};
 ghost use Rattle.c_tokens.specs.declared.token.Token.{Token as Piece};
 ghost use Rattle.c_pp.specs.declared.error.PpError.{PpError as Refusal};
-ghost use Rattle.c_pp.specs.Names.{Text};
-ghost use Rattle.c_pp.specs.Expands.{Expands, IsRefused, IsDrawn, max_tokens};
+ghost use Rattle.c_tokens.specs.Names.{Text};
+ghost use Rattle.c_tokens.specs.Limits.{max_tokens};
+ghost use Rattle.c_pp.specs.Expands.{Expands, IsPpFault, IsDrawn};
 
 use crate::directive::begins_directive;
 use crate::error::PpError;
 use crate::marks::Marks;
 use crate::numbers::number_names;
-use crate::output::{MAX_TOKENS, Output};
+use crate::output::Output;
 use crate::replacement::{Source, replace};
 use crate::table::{Table, obey};
 use c_tokens::Token;
@@ -18,9 +19,9 @@ use std::alloc::Global;
 
 /// The tokens that are left, one line after another, or why they stop.
 fn expanded_tokens(alloc: Global, text: &[u8], tokens: &[Token]) -> Result<Vec<Token>, PpError>
-    requires { length tokens.now ≤ MAX_TOKENS }
+    requires { length tokens.now ≤ max_tokens }
     ensures found { IfOk result (λ out. Expands text.now tokens.now out.items) }
-    ensures refused { IfErr result (λ e. (e ≡ PpError.Memory alloc_error) ⊎ IsRefused text.now tokens.now e) }
+    ensures refused { IfErr result (λ e. (e ≡ PpError.Memory alloc_error) ⊎ IsPpFault text.now tokens.now e) }
 {
     let names = number_names(alloc, text, tokens)?;
     let mut table = Table {
@@ -59,17 +60,17 @@ fn expanded_tokens(alloc: Global, text: &[u8], tokens: &[Token]) -> Result<Vec<T
 /// The tokens of a text with its directives obeyed and dropped, and with its macros replaced (C11 6.10). What stands for a
 /// macro has the places of the tokens of its body and the line of its name.
 pub fn expand(alloc: Global, text: &[u8], tokens: &[Token]) -> Result<Vec<Token>, PpError>
-    requires { length tokens.now ≤ MAX_TOKENS }
+    requires { length tokens.now ≤ max_tokens }
     // What is answered is what the tokens become.
     ensures found { IfOk result (λ out. Expands text.now tokens.now out.items) }
     ensures few { IfOk result (λ out. length out.items ≤ max_tokens) }
     // Each token is one of those that were given, on the line of one of them.
     ensures drawn { IfOk result (λ out. All (IsDrawn tokens.now) out.items) }
     // What is refused becomes nothing, and this is the first reason in the text.
-    ensures refused { IfErr result (λ e. (e ≡ PpError.Memory alloc_error) ⊎ IsRefused text.now tokens.now e) }
+    ensures refused { IfErr result (λ e. (e ≡ PpError.Memory alloc_error) ⊎ IsPpFault text.now tokens.now e) }
     // No other answer fits, unless memory runs out.
     ensures only { (out : List Piece) → Expands text.now tokens.now out → MatchResult result (λ found. found.items ≡ out) (λ e. e ≡ PpError.Memory alloc_error) }
-    ensures only_refused { (e : Refusal) → IsRefused text.now tokens.now e → MatchResult result (λ found. ⊥) (λ got. (got ≡ e) ⊎ (got ≡ PpError.Memory alloc_error)) }
+    ensures only_refused { (e : Refusal) → IsPpFault text.now tokens.now e → MatchResult result (λ found. ⊥) (λ got. (got ≡ e) ⊎ (got ≡ PpError.Memory alloc_error)) }
 {
     expanded_tokens(alloc, text, tokens)
 }
@@ -78,8 +79,8 @@ pub fn expand(alloc: Global, text: &[u8], tokens: &[Token]) -> Result<Vec<Token>
 /// its line.
 pub fn law_expanded()
     ensures one_list { (text : Text) (ts a b : List Piece) → Expands text ts a → Expands text ts b → a ≡ b }
-    ensures not_both { (text : Text) (ts out : List Piece) (e : Refusal) → Expands text ts out → IsRefused text ts e → ⊥ }
-    ensures one_reason { (text : Text) (ts : List Piece) (d e : Refusal) → IsRefused text ts d → IsRefused text ts e → d ≡ e }
-    ensures one_of_both { (text : Text) (ts : List Piece) → ((out : List Piece) × Expands text ts out) ⊎ ((e : Refusal) × IsRefused text ts e) }
+    ensures not_both { (text : Text) (ts out : List Piece) (e : Refusal) → Expands text ts out → IsPpFault text ts e → ⊥ }
+    ensures one_reason { (text : Text) (ts : List Piece) (d e : Refusal) → IsPpFault text ts d → IsPpFault text ts e → d ≡ e }
+    ensures one_of_both { (text : Text) (ts : List Piece) → ((out : List Piece) × Expands text ts out) ⊎ ((e : Refusal) × IsPpFault text ts e) }
     ensures drawn { (text : Text) (ts out : List Piece) → Expands text ts out → All (IsDrawn ts) out }
 {}

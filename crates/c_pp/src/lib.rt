@@ -9,9 +9,7 @@ mod numbers;
 mod output;
 mod replacement;
 mod span;
-mod spelling;
 mod table;
 
 pub use error::PpError;
 pub use expansion::{expand, law_expanded};
-pub use output::MAX_TOKENS;

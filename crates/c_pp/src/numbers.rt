@@ -1,12 +1,12 @@
 //! The names of a text, numbered.
 
 ghost use Rattle.std.specs.Prelude.{◌≡◌, IfOk};
+ghost use Rattle.c_pp.specs.Numbering.{Finds};
 ghost use Rattle.c_pp.specs.Walks.{Numbers};
 
-use crate::spelling::{is_name, spelling};
-use c_tokens::Token;
-use indexmap::IndexSet;
+use c_tokens::{Token, is_name, spelling};
 use std::alloc::{AllocError, Global};
+use std::collections::BTreeMap;
 
 /// The number of the name that each token is, which equal names share, and how many numbers there are.
 #[derive(Drop)]
@@ -15,23 +15,37 @@ pub struct Numbered {
     pub count: usize,
 }
 
-/// Numbers the names of a text.
+/// The number of a name, which is the next one where the name is new.
+fn number_of(known: &mut BTreeMap<Vec<u8>, usize>, name: Vec<u8>) -> Result<usize, AllocError>
+    ensures { IfOk result (λ number. Finds known.old known.new name.items number) }
+{
+    match known.get(name.as_slice()).copied() {
+        Some(number) => Ok(number),
+        None => {
+            let number = known.len();
+            known.insert(name, number)?;
+            Ok(number)
+        }
+    }
+}
+
+/// Numbers the names of a text. An ordered map keeps it fast whatever the names are.
 pub fn number_names(alloc: Global, text: &[u8], tokens: &[Token]) -> Result<Numbered, AllocError>
     ensures { IfOk result (λ found. Numbers text.now tokens.now found) }
 {
     let mut numbers = Vec::with_capacity(alloc, tokens.len())?;
-    let mut names: IndexSet<Vec<u8>> = IndexSet::new(alloc);
+    let mut known: BTreeMap<Vec<u8>, usize> = BTreeMap::new(alloc);
     for token in tokens {
         if !is_name(token.kind) {
             numbers.push(None)?;
             continue;
         }
         let name = spelling(alloc, text, token)?;
-        let (number, _) = names.insert_full(name)?;
+        let number = number_of(&mut known, name)?;
         numbers.push(Some(number))?;
     }
     Ok(Numbered {
         numbers,
-        count: names.len(),
+        count: known.len(),
     })
 }

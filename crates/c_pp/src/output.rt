@@ -6,11 +6,8 @@ ghost use Rattle.c_pp.specs.Macros.{on_line};
 ghost use Rattle.c_pp.specs.Walks.{Holds, StandsAt};
 
 use crate::span::Span;
-use c_tokens::Token;
+use c_tokens::{MAX_TOKENS, Token};
 use std::alloc::{AllocError, Global};
-
-/// The most tokens that may be put out.
-pub const MAX_TOKENS: usize = 200_000;
 
 /// What was put out, as long as it is not too much.
 #[derive(Drop)]

@@ -1,11 +1,11 @@
 //! What stands for a token: macros are replaced (C11 6.10.3).
 
-ghost use Rattle.std.specs.Prelude.{◌≡◌, ◌⊎◌, ℕ, ◌<◌, [], ◌∷◌, List, length, Some, alloc_error, slice_get, IfOk, MatchResult};
+ghost use Rattle.std.specs.Prelude.{◌≡◌, ◌⊎◌, ℕ, ◌<◌, [], ◌∷◌, List, length, Some, alloc_error, slice_get, IfOk, OnOk, MatchResult};
 ghost use Rattle.c_tokens.specs.declared.token.Token.{Token as Piece};
-ghost use Rattle.c_pp.specs.Names.{Text, Name as Word};
+ghost use Rattle.c_tokens.specs.Names.{Text, Name as Word};
 ghost use Rattle.c_pp.specs.Macros.{Macros, Loops};
-ghost use Rattle.c_pp.specs.Marked.{marks_of};
-ghost use Rattle.c_pp.specs.Walks.{macro_at, Holds, Knows, IsSeen, PutsOut, IsFresh, IsReplaced, AreClosed};
+ghost use Rattle.c_pp.specs.Marked.{held, marks_of, met_of};
+ghost use Rattle.c_pp.specs.Walks.{macro_at, Holds, Knows, IsSeen, PutsOut, IsFresh, IsReplaced, AreClosed, Covers, MeetsMore, AreMarkedMet, ReadsUpTo};
 
 use crate::error::PpError;
 use crate::marks::{Mark, Marks};
@@ -54,9 +54,16 @@ impl Source<'_> {
     fn macro_at(&self, at: usize) -> Option<Macro>
         ensures { result ≡ macro_at self.now.numbers.now self.now.bodies.now at }
     {
-        let number = (*self.numbers.get(at)?)?;
+        let number = self.number_at(at)?;
         let body = (*self.bodies.get(number)?)?;
         Some(Macro { number, body })
+    }
+
+    /// The number of the name that the token is.
+    fn number_at(&self, at: usize) -> Option<usize>
+        ensures { result ≡ held (slice_get self.now.numbers.now at) }
+    {
+        *self.numbers.get(at)?
     }
 }
 
@@ -65,14 +72,20 @@ fn put_out(
     source: &Source,
     span: Span,
     line: u32,
-    marks: &Marks,
+    marks: &mut Marks,
     output: &mut Output,
 ) -> Result<Stop, AllocError>
-    ensures fresh { IfOk result (λ stop. IsFresh (marks_of marks.now) (length source.now.bodies.now) stop) }
+    requires { length (marks_of marks.old) ≡ length source.now.bodies.now }
+    ensures same_marks { marks_of marks.new ≡ marks_of marks.old }
+    ensures unchanged { marks.new.changes ≡ marks.old.changes }
+    ensures met { MeetsMore source.now.bodies.now (marks_of marks.old) (met_of marks.old) (met_of marks.new) }
+    ensures read { AreMarkedMet (marks_of marks.old) (met_of marks.old) →
+        IfOk result (λ stop. ReadsUpTo source.now.tokens.now source.now.numbers.now source.now.bodies.now (met_of marks.new) span stop) }
+    ensures fresh { IfOk result (λ stop. IsFresh (marks_of marks.old) (length source.now.bodies.now) stop) }
     ensures stopped { (text : Text) (macros : Macros) (name : ℕ → Word) (made : List Piece) →
         IsSeen text macros name source.now.tokens.now source.now.numbers.now source.now.bodies.now →
-        Knows text macros name (marks_of marks.now) made → Holds output.old made →
-        IfOk result (λ stop. PutsOut text macros name source.now.tokens.now (marks_of marks.now) (length source.now.bodies.now) span line made output.new stop) }
+        Knows text macros name (marks_of marks.old) made → Holds output.old made →
+        IfOk result (λ stop. PutsOut text macros name source.now.tokens.now (marks_of marks.old) (length source.now.bodies.now) span line made output.new stop) }
 {
     for at in span.start..span.end {
         if at >= source.tokens.len() {
@@ -83,6 +96,7 @@ fn put_out(
             Some(found) => found,
             None => {
                 output.push(Token { line, ..token })?;
+                marks.meet_token(source.number_at(at));
                 continue;
             }
         };
@@ -114,12 +128,18 @@ pub fn replace(
     requires marked { length (marks_of marks.old) ≡ length source.now.bodies.now }
     ensures marked { length (marks_of marks.new) ≡ length (marks_of marks.old) }
     ensures unchanged { marks.new.changes ≡ marks.old.changes }
+    ensures covers { Covers source.now.tokens.now source.now.numbers.now source.now.bodies.now (marks_of marks.old) (met_of marks.old) →
+        OnOk result (Covers source.now.tokens.now source.now.numbers.now source.now.bodies.now (marks_of marks.new) (met_of marks.new)) }
     ensures replaced { (text : Text) (macros : Macros) (name : ℕ → Word) (made : List Piece) (token : Piece) →
         slice_get source.now.tokens.now at ≡ Some token → IsSeen text macros name source.now.tokens.now source.now.numbers.now source.now.bodies.now →
         Knows text macros name (marks_of marks.old) made → AreClosed (marks_of marks.old) → Holds output.old made →
         MatchResult result (λ _. IsReplaced text macros name token made (marks_of marks.new) output.new)
         (λ e. (e ≡ PpError.Memory alloc_error) ⊎ ((e ≡ PpError.MacroLoop token.line) × Loops text macros [] (token ∷ []))) }
 {
+    if source.macro_at(at).is_none() {
+        output.push(source.tokens[at])?;
+        return Ok(());
+    }
     let line = source.tokens[at].line;
     let mut opens: Vec<Open> = Vec::new(alloc);
     let mut span = Span {
@@ -130,6 +150,7 @@ pub fn replace(
         match put_out(source, span, line, marks, output)? {
             Stop::Loop => return Err(PpError::MacroLoop(line)),
             Stop::Enter(found, rest) => {
+                marks.meet(found.number);
                 marks.set(found.number, Mark::Open);
                 opens.push(Open {
                     number: found.number,

@@ -2,10 +2,10 @@
 
 ghost use Rattle.std.specs.Prelude.{◌≡◌, ◌⊎◌, ◌+◌, ◌<◌, ◌≤◌, ℕ, true, length, drop, Some, alloc_error, slice_get, slice_set, IfOk, MatchResult, MatchOption};
 ghost use Rattle.c_tokens.specs.declared.token.Token.{Token as Piece};
-ghost use Rattle.c_pp.specs.Names.{Text, Name as Word};
+ghost use Rattle.c_tokens.specs.Names.{Text, Name as Word};
 ghost use Rattle.c_pp.specs.Directives.{begins_directive};
 ghost use Rattle.c_pp.specs.Macros.{Macros};
-ghost use Rattle.c_pp.specs.Expands.{Refuses};
+ghost use Rattle.c_pp.specs.Expands.{HasPpFault};
 ghost use Rattle.c_pp.specs.Marked.{held, marks_of};
 ghost use Rattle.c_pp.specs.Walks.{IsSeen};
 ghost use Rattle.c_pp.specs.Changes.{IsChanged, IsObeyed};
@@ -31,10 +31,10 @@ fn number_at(numbers: &[Option<usize>], at: usize) -> Option<usize>
     *numbers.get(at)?
 }
 
-/// Sets the body of a macro, or none.
+/// Sets the body of a macro, or none. Where what stands for another macro may change by that, all marks are taken back.
 fn change(table: &mut Table, number: Option<usize>, body: Option<Span>)
     requires { table.old.marks.changes < usize.MAX }
-    ensures changed { MatchOption number (table.new.bodies.items ≡ table.old.bodies.items) (λ n. IsChanged table.old table.new n body) }
+    ensures changed { MatchOption number (table.new.bodies.items ≡ table.old.bodies.items) (λ n. n < length table.old.bodies.items → IsChanged table.old table.new n body) }
     ensures few { table.new.marks.changes ≤ table.old.marks.changes + 1 }
     ensures same_bodies { length table.new.bodies.items ≡ length table.old.bodies.items }
     ensures same_marks { length (marks_of table.new.marks) ≡ length (marks_of table.old.marks) }
@@ -42,10 +42,16 @@ fn change(table: &mut Table, number: Option<usize>, body: Option<Span>)
     let Some(number) = number else {
         return;
     };
-    if number < table.bodies.len() {
-        table.bodies[number] = body;
+    if number >= table.bodies.len() {
+        return;
     }
-    table.marks.forget();
+    if body.is_none() && table.bodies[number].is_none() {
+        return;
+    }
+    table.bodies[number] = body;
+    if table.marks.is_met(number) {
+        table.marks.forget();
+    }
 }
 
 /// Obeys the directive that begins there, and answers where the next line begins.
@@ -66,7 +72,7 @@ pub fn obey(
     ensures obeyed { (macros : Macros) (name : ℕ → Word) (hash : Piece) → slice_get tokens.now at ≡ Some hash → begins_directive hash ≡ true →
         IsSeen text.now macros name tokens.now numbers.now table.old.bodies.items →
         MatchResult result (λ end. IsObeyed text.now macros name tokens.now numbers.now table.old table.new at end)
-        (λ e. (e ≡ PpError.Memory alloc_error) ⊎ ((room : ℕ) → Refuses text.now macros room (drop at tokens.now) e)) }
+        (λ e. (e ≡ PpError.Memory alloc_error) ⊎ ((room : ℕ) → HasPpFault text.now macros room (drop at tokens.now) e)) }
 {
     let line = tokens[at].line;
     let end = at + 1 + line_len(tokens, at + 1);

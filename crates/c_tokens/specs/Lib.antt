@@ -1,2 +1,4 @@
 pub mod Same
 pub mod Words
+pub mod Limits
+pub mod Names

@@ -1,9 +1,9 @@
-//! A token with its place in the text.
+//! A token with where it stands in the text.
 
 use crate::kind::Kind;
 
-/// A token: its bytes are those of the text from `start` up to `end`. Lines count from 1, and `first` says
-/// that no token stands before it on its line.
+/// A token: its bytes are those of the text from the offset `start` up to `end`. Offsets count bytes from 0, lines count
+/// from 1, and `first` says that no token stands before it on its line.
 #[derive(Clone, Copy, Debug, PartialEq, Eq)]
 pub struct Token {
     pub kind: Kind,

@@ -1,14 +1,14 @@
 //! Directives and macros (C11 6.10): what the tokens of a text become, and why they are refused.
 
-use c_lexer::lex;
+use c_lexer::{MAX_SOURCE_BYTES, lex};
 use c_pp::{PpError, expand};
 use std::alloc::{AllocError, Global};
 use std::test::Fail;
 
-/// The tokens that are left of a text, each as its place and its line; or the refusal.
+/// The tokens that are left of a text, each as its offsets and its line; or the refusal.
 fn shown(alloc: Global, text: &[u8]) -> Result<String, AllocError> {
     let mut all = String::new(alloc);
-    if text.len() > 1_048_576 {
+    if text.len() > MAX_SOURCE_BYTES {
         return Ok(all);
     }
     let Ok(tokens) = lex(alloc, text) else {
@@ -31,7 +31,7 @@ fn shown(alloc: Global, text: &[u8]) -> Result<String, AllocError> {
 
 /// How many tokens are left of a text, or the line of the refusal that is wanted.
 fn count(alloc: Global, text: &[u8]) -> Result<String, AllocError> {
-    if text.len() > 1_048_576 {
+    if text.len() > MAX_SOURCE_BYTES {
         return format!(in alloc; "too long");
     }
     let Ok(tokens) = lex(alloc, text) else {
@@ -49,7 +49,7 @@ fn count(alloc: Global, text: &[u8]) -> Result<String, AllocError> {
 
 #[test]
 fn directives_are_obeyed_and_macros_replaced(rt: HostRuntime) -> Result<(), Fail> {
-    let cases: [(&[u8], &str); 58] = [
+    static CASES: [(&[u8], &str); 58] = [
         (b"", ""),
         (b"int x;", "0..3 1; 4..5 1; 5..6 1; "),
         // the line of a token that is replaced through three macros
@@ -132,7 +132,7 @@ fn directives_are_obeyed_and_macros_replaced(rt: HostRuntime) -> Result<(), Fail
         // a comment that goes over a line's end
         (b"#define A /*\n*/ 1\nA", "16..17 3; "),
     ];
-    for (text, wanted) in cases {
+    for (text, wanted) in CASES {
         assert_eq!(rt; shown(rt.alloc(), text)?.as_str(), wanted);
     }
     Ok(())
@@ -161,7 +161,7 @@ fn doublings(
 
 #[test]
 fn at_most_two_hundred_thousand_tokens_are_left(rt: HostRuntime) -> Result<(), Fail> {
-    let cases: [(&[u8], &str, u32, &str, &str); 9] = [
+    static CASES: [(&[u8], &str, u32, &str, &str); 9] = [
         (
             b"",
             "x x",
@@ -196,7 +196,7 @@ fn at_most_two_hundred_thousand_tokens_are_left(rt: HostRuntime) -> Result<(), F
             "the token on line 23 is one too many",
         ),
     ];
-    for (before, first, last, after, wanted) in cases {
+    for (before, first, last, after, wanted) in CASES {
         let text = doublings(rt.alloc(), before, first, last, after)?;
         assert_eq!(rt; count(rt.alloc(), text.as_slice())?.as_str(), wanted);
     }
@@ -205,12 +205,12 @@ fn at_most_two_hundred_thousand_tokens_are_left(rt: HostRuntime) -> Result<(), F
 
 #[test]
 fn exactly_two_hundred_thousand_tokens_are_left(rt: HostRuntime) -> Result<(), Fail> {
-    let cases: [(u32, &str, &str); 3] = [
+    static CASES: [(u32, &str, &str); 3] = [
         (0, "", "200000"),
         (1, "", "the token on line 3 is one too many"),
         (1, "\n#if", "the token on line 3 is one too many"),
     ];
-    for (more, end, wanted) in cases {
+    for (more, end, wanted) in CASES {
         let mut text = Vec::new(rt.alloc());
         text.extend_from_slice(b"#define A x x x x x x x x x x\n")?;
         for _ in 0..20_000u32 {
@@ -228,12 +228,12 @@ fn exactly_two_hundred_thousand_tokens_are_left(rt: HostRuntime) -> Result<(), F
 
 const LETTERS: [u8; 52] = *b"ABCDEFGHIJKLMNOPQRSTUVWXYZabcdefghijklmnopqrstuvwxyz";
 
-/// Puts a name of three letters and a byte behind it.
-fn put_name(text: &mut Vec<u8>, number: usize, behind: u8) -> Result<(), AllocError> {
+/// Puts a name of three letters and a byte after it.
+fn put_name(text: &mut Vec<u8>, number: usize, after: u8) -> Result<(), AllocError> {
     text.push(LETTERS[number / 2704 % 52])?;
     text.push(LETTERS[number / 52 % 52])?;
     text.push(LETTERS[number % 52])?;
-    text.push(behind)?;
+    text.push(after)?;
     Ok(())
 }
 
@@ -254,7 +254,7 @@ fn chain(alloc: Global, length: usize, last: &[u8], after: &[u8]) -> Result<Vec<
 
 #[test]
 fn a_chain_of_fifty_thousand_macros_is_gone_through(rt: HostRuntime) -> Result<(), Fail> {
-    let cases: [(usize, &[u8], &[u8], &str); 3] = [
+    static CASES: [(usize, &[u8], &[u8], &str); 3] = [
         (50_000, b"\n", b"AAA", "0"),
         (1_000, b"0 0\n", b"AAA AAA AAB", "6"),
         (
@@ -264,7 +264,7 @@ fn a_chain_of_fifty_thousand_macros_is_gone_through(rt: HostRuntime) -> Result<(
             "the macro on line 1001 leads back to itself",
         ),
     ];
-    for (length, last, after, wanted) in cases {
+    for (length, last, after, wanted) in CASES {
         let text = chain(rt.alloc(), length, last, after)?;
         assert_eq!(rt; count(rt.alloc(), text.as_slice())?.as_str(), wanted);
     }

@@ -1,13 +1,13 @@
 //! Tokens of C (C11 6.4): what a text is cut into, and why it is refused.
 
-use c_lexer::{Kind, NumType, Token, lex, text_bytes};
+use c_lexer::{Kind, MAX_SOURCE_BYTES, NumType, Token, lex, text_bytes};
 use std::alloc::{AllocError, Global};
 use std::test::Fail;
 
-/// The tokens of a text, each as its kind, its places, its line and a star if it is the first of its line; or the refusal.
+/// The tokens of a text, each as its kind, its offsets, its line and a star if it is the first of its line; or the refusal.
 fn shown(alloc: Global, text: &[u8]) -> Result<String, AllocError> {
     let mut all = String::new(alloc);
-    if text.len() > 1_048_576 {
+    if text.len() > MAX_SOURCE_BYTES {
         return Ok(all);
     }
     match lex(alloc, text) {
@@ -79,14 +79,14 @@ fn check(
 #[test]
 fn numbers_have_the_first_type_that_holds_them(rt: HostRuntime) -> Result<(), Fail> {
     let alloc = rt.alloc();
-    let plain: [&[u8]; 1] = [b""];
-    let long: [&[u8]; 4] = [b"l", b"L", b"ll", b"LL"];
-    let unsigned: [&[u8]; 2] = [b"u", b"U"];
-    let both: [&[u8]; 16] = [
+    static PLAIN: [&[u8]; 1] = [b""];
+    static LONG: [&[u8]; 4] = [b"l", b"L", b"ll", b"LL"];
+    static UNSIGNED: [&[u8]; 2] = [b"u", b"U"];
+    static BOTH: [&[u8]; 16] = [
         b"ul", b"uL", b"Ul", b"UL", b"ull", b"uLL", b"Ull", b"ULL", b"lu", b"lU", b"Lu", b"LU",
         b"llu", b"llU", b"LLu", b"LLU",
     ];
-    let cases = [
+    static CASES: [Constant; 9] = [
         Constant {
             decimal: b"1",
             octal: b"01",
@@ -151,17 +151,17 @@ fn numbers_have_the_first_type_that_holds_them(rt: HostRuntime) -> Result<(), Fa
             types: *b"xxxxxx",
         },
     ];
-    for case in &cases {
+    for case in &CASES {
         let [decimal, decimal_long, other, other_long, with_u, with_both] = case.types;
-        check(&rt, alloc, case.decimal, &plain, case.value, decimal)?;
-        check(&rt, alloc, case.decimal, &long, case.value, decimal_long)?;
+        check(&rt, alloc, case.decimal, &PLAIN, case.value, decimal)?;
+        check(&rt, alloc, case.decimal, &LONG, case.value, decimal_long)?;
         for digits in [case.octal, case.hexadecimal] {
-            check(&rt, alloc, digits, &plain, case.value, other)?;
-            check(&rt, alloc, digits, &long, case.value, other_long)?;
+            check(&rt, alloc, digits, &PLAIN, case.value, other)?;
+            check(&rt, alloc, digits, &LONG, case.value, other_long)?;
         }
         for digits in [case.decimal, case.octal, case.hexadecimal] {
-            check(&rt, alloc, digits, &unsigned, case.value, with_u)?;
-            check(&rt, alloc, digits, &both, case.value, with_both)?;
+            check(&rt, alloc, digits, &UNSIGNED, case.value, with_u)?;
+            check(&rt, alloc, digits, &BOTH, case.value, with_both)?;
         }
     }
     Ok(())
@@ -169,7 +169,7 @@ fn numbers_have_the_first_type_that_holds_them(rt: HostRuntime) -> Result<(), Fa
 
 #[test]
 fn a_text_is_cut_into_its_longest_tokens(rt: HostRuntime) -> Result<(), Fail> {
-    let cases: [(&[u8], &str); 21] = [
+    static CASES: [(&[u8], &str); 21] = [
         (b"", ""),
         (
             b"a+1",
@@ -213,7 +213,7 @@ fn a_text_is_cut_into_its_longest_tokens(rt: HostRuntime) -> Result<(), Fail> {
         ),
         (b"L\"x\"'y'", "Name 0..1 1*; Str 1..4 1; Char(121) 4..7 1; "),
     ];
-    for (text, wanted) in cases {
+    for (text, wanted) in CASES {
         assert_eq!(rt; shown(rt.alloc(), text)?.as_str(), wanted);
     }
     Ok(())
@@ -221,7 +221,7 @@ fn a_text_is_cut_into_its_longest_tokens(rt: HostRuntime) -> Result<(), Fail> {
 
 #[test]
 fn comments_and_joined_lines_separate_nothing_else(rt: HostRuntime) -> Result<(), Fail> {
-    let cases: [(&[u8], &str); 17] = [
+    static CASES: [(&[u8], &str); 17] = [
         (b"a/* // */b", "Name 0..1 1*; Name 9..10 1; "),
         (b"a// /*\nb", "Name 0..1 1*; Name 7..8 2*; "),
         (b"a//", "Name 0..1 1*; "),
@@ -236,7 +236,7 @@ fn comments_and_joined_lines_separate_nothing_else(rt: HostRuntime) -> Result<()
             b"/*\n\n*/ # /*\n*/ a\nb",
             "Mark(Hash) 7..8 3*; Name 15..16 4; Name 17..18 5*; ",
         ),
-        // a backslash and the line end behind it are gone before there are tokens
+        // a backslash and the line end after it are gone before there are tokens
         (b"na\\\nme x", "Name 0..6 1*; Name 7..8 2; "),
         (b"1\\\n2", "Number(12, Int) 0..4 1*; "),
         (b"+\\\n\\\n= a", "Mark(PlusEqual) 0..6 1*; Name 7..8 3; "),
@@ -248,7 +248,7 @@ fn comments_and_joined_lines_separate_nothing_else(rt: HostRuntime) -> Result<()
         (b"a\\\n", "Name 0..1 1*; "),
         (b"a \\ b", "BadByte(2)"),
     ];
-    for (text, wanted) in cases {
+    for (text, wanted) in CASES {
         assert_eq!(rt; shown(rt.alloc(), text)?.as_str(), wanted);
     }
     Ok(())
@@ -256,7 +256,7 @@ fn comments_and_joined_lines_separate_nothing_else(rt: HostRuntime) -> Result<()
 
 #[test]
 fn a_text_is_refused_where_its_first_fault_begins(rt: HostRuntime) -> Result<(), Fail> {
-    let cases: [(&[u8], &str); 29] = [
+    static CASES: [(&[u8], &str); 29] = [
         (b"a $ @", "BadByte(2)"),
         (b"a\r\n", "BadByte(1)"),
         (b"\\", "BadByte(0)"),
@@ -287,7 +287,7 @@ fn a_text_is_refused_where_its_first_fault_begins(rt: HostRuntime) -> Result<(),
         (b"\"a\" \"\\e\" $", "BadEscape(4)"),
         (b"$ \"", "BadByte(0)"),
     ];
-    for (text, wanted) in cases {
+    for (text, wanted) in CASES {
         assert_eq!(rt; shown(rt.alloc(), text)?.as_str(), wanted);
     }
     // bytes that begin no token are refused outside strings and comments alone
@@ -308,7 +308,7 @@ fn a_text_is_refused_where_its_first_fault_begins(rt: HostRuntime) -> Result<(),
 
 #[test]
 fn a_character_is_one_byte_with_a_sign(rt: HostRuntime) -> Result<(), Fail> {
-    let cases: [(&[u8], i32); 16] = [
+    static CASES: [(&[u8], i32); 16] = [
         (b"'a'", 97),
         (b"'\\''", 39),
         (b"'\"'", 34),
@@ -326,8 +326,8 @@ fn a_character_is_one_byte_with_a_sign(rt: HostRuntime) -> Result<(), Fail> {
         (b"'\\xfF'", -1),
         (b"'\xe9'", -23),
     ];
-    for (text, value) in cases {
-        assert!(rt; text.len() <= 1_048_576);
+    for (text, value) in CASES {
+        assert!(rt; text.len() <= MAX_SOURCE_BYTES);
         let tokens = lex(rt.alloc(), text).map_err(|_| "refused")?;
         let kinds = [Kind::Char(value)];
         assert_eq!(rt; tokens.len(), 1);
@@ -340,7 +340,7 @@ fn a_character_is_one_byte_with_a_sign(rt: HostRuntime) -> Result<(), Fail> {
 
 #[test]
 fn a_string_means_its_bytes(rt: HostRuntime) -> Result<(), Fail> {
-    let cases: [(&[u8], &[u8]); 12] = [
+    static CASES: [(&[u8], &[u8]); 12] = [
         (b"\"\"", b""),
         (b"  \"a\\n\";", b"a\n"),
         (b"\"'\\'\\\"\\?\\\\\"", b"''\"?\\"),
@@ -357,8 +357,8 @@ fn a_string_means_its_bytes(rt: HostRuntime) -> Result<(), Fail> {
         (b"\"\\\\\nn\\x4\\\n1\"", b"\nA"),
         (b"\"/* a */ // b\"", b"/* a */ // b"),
     ];
-    for (text, bytes) in cases {
-        assert!(rt; text.len() <= 1_048_576);
+    for (text, bytes) in CASES {
+        assert!(rt; text.len() <= MAX_SOURCE_BYTES);
         let tokens = lex(rt.alloc(), text).map_err(|_| "refused")?;
         let mut strings = 0u32;
         for token in tokens.iter() {
@@ -400,16 +400,16 @@ fn repeated(
 
 #[test]
 fn a_text_has_at_most_two_hundred_thousand_lexemes(rt: HostRuntime) -> Result<(), Fail> {
-    let cases: [(&[u8], &str); 5] = [
+    static CASES: [(&[u8], &str); 5] = [
         (b"", ""),
         (b" /* */ // ", ""),
         (b"  + $", "TooManyTokens(400002)"),
         (b" $", "BadByte(400001)"),
         (b" '", "OpenString(400001)"),
     ];
-    for (after, wanted) in cases {
+    for (after, wanted) in CASES {
         let text = repeated(rt.alloc(), b"", b"x ", 200_000, after)?;
-        assert!(rt; text.len() <= 1_048_576);
+        assert!(rt; text.len() <= MAX_SOURCE_BYTES);
         if wanted == "" {
             let tokens = lex(rt.alloc(), text.as_slice()).map_err(|_| "refused")?;
             assert_eq!(rt; tokens.len(), 200_000);
@@ -422,7 +422,7 @@ fn a_text_has_at_most_two_hundred_thousand_lexemes(rt: HostRuntime) -> Result<()
 
 #[test]
 fn a_mebibyte_is_read_in_one_pass(rt: HostRuntime) -> Result<(), Fail> {
-    let cases: [(&[u8], &[u8], u32, &[u8], &str); 8] = [
+    static CASES: [(&[u8], &[u8], u32, &[u8], &str); 8] = [
         (b"/*", b"*", 1_048_572, b"*/", ""),
         (b"//", b"/", 1_048_574, b"", ""),
         (b"", b"a", 1_048_576, b"", "Name 0..1048576 1*; "),
@@ -432,9 +432,9 @@ fn a_mebibyte_is_read_in_one_pass(rt: HostRuntime) -> Result<(), Fail> {
         (b"a", b"\\\n", 524_287, b"b", "Name 0..1048576 1*; "),
         (b"/*", b"*", 1_048_574, b"", "OpenComment(0)"),
     ];
-    for (before, piece, times, after, wanted) in cases {
+    for (before, piece, times, after, wanted) in CASES {
         let text = repeated(rt.alloc(), before, piece, times, after)?;
-        assert!(rt; text.len() <= 1_048_576);
+        assert!(rt; text.len() <= MAX_SOURCE_BYTES);
         assert_eq!(rt; shown(rt.alloc(), text.as_slice())?.as_str(), wanted);
     }
     Ok(())

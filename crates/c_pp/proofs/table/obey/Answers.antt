@@ -3,7 +3,7 @@ use Rattle.std.specs.Prelude.{slice_range}
 use Rattle.std.proofs.lemmas.Option.{get_or_from_slice_get}
 use Rattle.c_pp.specs.declared.error.PpError.TheVariants.{UnknownHeader, BadDirective}
 use Rattle.c_tokens.specs.declared.token.Token.{Token}
-use Rattle.c_pp.specs.Expands.{Refuses}
+use Rattle.c_pp.specs.Expands.{HasPpFault}
 use Rattle.c_pp.proofs.Lines.{is_define, is_undef, is_header_refused, is_directive_refused}
 use Rattle.c_pp.proofs.Obeying.{obeyed_nothing, obeyed_about, refused_here}
 use Rattle.c_pp.proofs.WalkLemmas.{nowhere}
@@ -31,7 +31,7 @@ returns-in-Undefine-clause-obeyed c macros name hash there begins seen =
 pub returns-in-UnknownHeader-clause-obeyed : goal.returns-in-UnknownHeader-clause-obeyed
 returns-in-UnknownHeader-clause-obeyed c macros name hash there begins seen =
     let words = slice_range c.args.tokens.now (c.args.at + 1) (c.args.at + 1 + c.line_len.result) in
-    inr (λ room. subst (λ (t : Token). Refuses c.args.text.now macros room (drop c.args.at c.args.tokens.now) (UnknownHeader t.line))
+    inr (λ room. subst (λ (t : Token). HasPpFault c.args.text.now macros room (drop c.args.at c.args.tokens.now) (UnknownHeader t.line))
     (sym (get_or_from_slice_get c.args.tokens.now c.args.at hash nowhere there))
     (refused_here c.args.text.now macros c.args.tokens.now c.args.at c.line_len.result room hash (UnknownHeader hash.line) there begins c.line_len.ensures.value
     (is_header_refused c.args.text.now words hash.line (sym c.in_ok-read_line.ensures ∙ c.in-UnknownHeader.is))))
@@ -39,7 +39,7 @@ returns-in-UnknownHeader-clause-obeyed c macros name hash there begins seen =
 pub returns-in-Unknown-clause-obeyed : goal.returns-in-Unknown-clause-obeyed
 returns-in-Unknown-clause-obeyed c macros name hash there begins seen =
     let words = slice_range c.args.tokens.now (c.args.at + 1) (c.args.at + 1 + c.line_len.result) in
-    inr (λ room. subst (λ (t : Token). Refuses c.args.text.now macros room (drop c.args.at c.args.tokens.now) (BadDirective t.line))
+    inr (λ room. subst (λ (t : Token). HasPpFault c.args.text.now macros room (drop c.args.at c.args.tokens.now) (BadDirective t.line))
     (sym (get_or_from_slice_get c.args.tokens.now c.args.at hash nowhere there))
     (refused_here c.args.text.now macros c.args.tokens.now c.args.at c.line_len.result room hash (BadDirective hash.line) there begins c.line_len.ensures.value
     (is_directive_refused c.args.text.now words hash.line (sym c.in_ok-read_line.ensures ∙ c.in-Unknown.is))))

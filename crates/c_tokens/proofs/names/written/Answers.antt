@@ -1,8 +1,8 @@
 use Rattle.std.proofs.Common.{◌≡◌, ◌≤◌, ℕ, List, min, length, filter, ap, sym, ◌∙◌, subst, arith}
 use Rattle.std.specs.Prelude.{slice_range, IfOk}
-use Rattle.c_pp.specs.Names.{written, joins_no_lines}
-use Rattle.c_pp.proofs.Parts.{part_none, part_cut}
-use Rattle.c_pp.proofs.spelling.written.Goals as goal
+use Rattle.c_tokens.specs.Names.{written, joins_no_lines}
+use Rattle.c_tokens.proofs.PartLemmas.{part_none, part_cut}
+use Rattle.c_tokens.proofs.names.written.Goals as goal
 
 pub returns-then-start-end : goal.returns-then-start-end
 unfolding written

@@ -1,19 +1,20 @@
-//! What tokens are spelled with.
+//! What tokens are spelled with, and names (C11 6.4.2).
 
 ghost use Rattle.std.specs.Prelude.{◌≡◌, filter, IfOk};
-ghost use Rattle.c_pp.specs.Names as spec;
+ghost use Rattle.c_tokens.specs.Names as spec;
 
-use c_tokens::{Kind, Token};
+use crate::kind::Kind;
+use crate::token::Token;
 use std::alloc::{AllocError, Global};
 
-/// Whether the byte is part of no joined lines.
-fn joins_no_lines(byte: u8) -> bool
+/// Whether the byte belongs to no joint of two lines: it is neither a backslash nor a line end.
+pub fn joins_no_lines(byte: u8) -> bool
     ensures { result ≡ spec.joins_no_lines byte }
 {
     byte != b'\\' && byte != b'\n'
 }
 
-/// The bytes without those that join lines (C11 5.1.1.2, phase 2).
+/// The bytes without those that join lines.
 fn unjoined(alloc: Global, bytes: &[u8]) -> Result<Vec<u8>, AllocError>
     ensures { IfOk result (λ found. found.items ≡ filter (λ byte. spec.joins_no_lines byte) bytes.now) }
 {
@@ -24,7 +25,7 @@ fn unjoined(alloc: Global, bytes: &[u8]) -> Result<Vec<u8>, AllocError>
         .collect(alloc)
 }
 
-/// What stands from the one place up to the other, without what joins lines.
+/// What stands from the one offset up to the other, in bytes, without what joins lines (C11 5.1.1.2, phase 2).
 pub fn written(alloc: Global, text: &[u8], start: usize, end: usize) -> Result<Vec<u8>, AllocError>
     ensures { IfOk result (λ found. found.items ≡ spec.written text.now start end) }
 {
@@ -35,7 +36,7 @@ pub fn written(alloc: Global, text: &[u8], start: usize, end: usize) -> Result<V
     unjoined(alloc, &text[start..end])
 }
 
-/// The bytes of a token.
+/// The bytes that a token of the text is spelled with; of a name, the name.
 #[tactic(auto, unfolding(crate::specs::Names::spelling))]
 pub fn spelling(alloc: Global, text: &[u8], token: &Token) -> Result<Vec<u8>, AllocError>
     ensures { IfOk result (λ found. found.items ≡ spec.spelling text.now token.now) }
