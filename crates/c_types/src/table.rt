@@ -75,7 +75,7 @@ pub fn law_table(types: &TypeTable)
 }
 
 /// The row of a type that no pointer type points to yet.
-fn unpointed(kind: CType) -> Row
+fn row_of(kind: CType) -> Row
     ensures { result ≡ record { kind = kind; pointer = 0 } }
 {
     Row { kind, pointer: 0 }
@@ -88,15 +88,15 @@ impl TypeTable {
         ensures { IfOk result (λ types. types ≡ basic_types) }
     {
         let rows = vec![in alloc;
-            unpointed(CType::Void),
-            unpointed(CType::Num(1, true)),
-            unpointed(CType::Num(1, false)),
-            unpointed(CType::Num(2, true)),
-            unpointed(CType::Num(2, false)),
-            unpointed(CType::Num(4, true)),
-            unpointed(CType::Num(4, false)),
-            unpointed(CType::Num(8, true)),
-            unpointed(CType::Num(8, false)),
+            row_of(CType::Void),
+            row_of(CType::Num(1, true)),
+            row_of(CType::Num(1, false)),
+            row_of(CType::Num(2, true)),
+            row_of(CType::Num(2, false)),
+            row_of(CType::Num(4, true)),
+            row_of(CType::Num(4, false)),
+            row_of(CType::Num(8, true)),
+            row_of(CType::Num(8, false)),
         ]?;
         Ok(TypeTable { rows })
     }
@@ -114,7 +114,7 @@ impl TypeTable {
         if found != 0 {
             return Ok(found);
         }
-        self.rows.push(unpointed(CType::Pointer(to)))?;
+        self.rows.push(row_of(CType::Pointer(to)))?;
         let number = self.rows.len() as u32;
         self.rows[at].pointer = number;
         Ok(number)

@@ -7,8 +7,8 @@ use Rattle.std.proofs.lemmas.List.{length-replicate}
 use Rattle.std.proofs.lemmas.List.Sums.{passes_at_first}
 use Rattle.std.specs.List.{position_or_len, AllByRecursion}
 use Rattle.heap_model.specs.Regions.{Slot, is_slot, slot_of, slot_in, region_of, size_of, sizes, class_of, slots, slot_address, address_of, version_of}
-use Rattle.heap_model.specs.Cells.{Cell, zeros, Act, Loads, Stores, Adds, Number, Pointer, Datum, put, cleared, stored, added, access_cells, number_in, width, cells_at}
-use Rattle.heap_model.specs.Heap.{Object, empty, live_count, dead_count, made_count, with_made, with_died, with_cells, recelled}
+use Rattle.heap_model.specs.Cells.{Cell, zeros, Act, Loads, Stores, Adds, Number, Pointer, Datum, put, without_pointer, cells_after_store, cells_after_add, access_cells, number_in, width, cells_at}
+use Rattle.heap_model.specs.Heap.{Object, empty, live_count, dead_count, made_count, with_new, with_dead, with_cells, with_cells_if}
 use Rattle.heap_model.specs.Answers.{Name, Words, is_in, is_at, names, slot_at, offset, datum, new_object, next}
 use Rattle.heap_model.specs.Preference.{Preference}
 use Rattle.heap_model.specs.Forms.{region_for}
@@ -31,21 +31,21 @@ length-put zero [] (cell ∷ cells) = refl
 length-put zero (c ∷ new) (cell ∷ cells) = ap suc (length-put zero new cells)
 length-put (suc k) new (cell ∷ cells) = ap suc (length-put k new cells)
 
-length-stored : {P : Type 0} (kind : AccessKind) (k : ℕ) (d : Datum P) (cells : List (Cell P)) → length (stored kind k d cells) ≡ length cells
-unfolding stored cleared
-length-stored kind k (Number n) cells = length-put k _ _ ∙ length-put (8 * (k / 8)) _ cells
-length-stored kind k (Pointer p) cells = length-put k _ cells
+length-cells_after_store : {P : Type 0} (kind : AccessKind) (k : ℕ) (d : Datum P) (cells : List (Cell P)) → length (cells_after_store kind k d cells) ≡ length cells
+unfolding cells_after_store without_pointer
+length-cells_after_store kind k (Number n) cells = length-put k _ _ ∙ length-put (8 * (k / 8)) _ cells
+length-cells_after_store kind k (Pointer p) cells = length-put k _ cells
 
-length-added : {P : Type 0} (kind : AccessKind) (k n : ℕ) (old : Option ℕ) (cells : List (Cell P)) → length (added kind k n old cells) ≡ length cells
-unfolding added
-length-added kind k n None cells = refl
-length-added kind k n (Some old) cells = length-put k _ cells
+length-cells_after_add : {P : Type 0} (kind : AccessKind) (k n : ℕ) (old : Option ℕ) (cells : List (Cell P)) → length (cells_after_add kind k n old cells) ≡ length cells
+unfolding cells_after_add
+length-cells_after_add kind k n None cells = refl
+length-cells_after_add kind k n (Some old) cells = length-put k _ cells
 
 pub length-access_cells : {P : Type 0} (k : ℕ) (kind : AccessKind) (act : Act P) (cells : List (Cell P)) → length (access_cells k kind act cells) ≡ length cells
 unfolding access_cells
 length-access_cells k kind Loads cells = refl
-length-access_cells k kind (Stores d) cells = length-stored kind k d cells
-length-access_cells k kind (Adds n) cells = length-added kind k n (number_in (cells_at k (width kind) cells)) cells
+length-access_cells k kind (Stores d) cells = length-cells_after_store kind k d cells
+length-access_cells k kind (Adds n) cells = length-cells_after_add kind k n (number_in (cells_at k (width kind) cells)) cells
 
 -- ---- slots that exist
 
@@ -113,7 +113,7 @@ room-filter : (p : Object Name ℕ → Bool) (os : List (Object Name ℕ)) → A
 room-filter p [] all = tt
 room-filter p (o ∷ os) all = push-if (p o) o (filter p os) all.0 (room-filter p os all.1)
 
-room-map : (is : Name → Bool) (f : List (Cell ℕ) → List (Cell ℕ)) → ((cells : List (Cell ℕ)) → length (f cells) ≡ length cells) → (os : List (Object Name ℕ)) → AllByRecursion HasRoom os → AllByRecursion HasRoom (map (recelled is f) os)
+room-map : (is : Name → Bool) (f : List (Cell ℕ) → List (Cell ℕ)) → ((cells : List (Cell ℕ)) → length (f cells) ≡ length cells) → (os : List (Object Name ℕ)) → AllByRecursion HasRoom os → AllByRecursion HasRoom (map (with_cells_if is f) os)
 room-map is f same [] all = tt
 room-map is f same (o ∷ os) all = (record { slot = all.0.slot; room = omega (arith, length-either (is o.name) (f o.body.cells) o.body.cells (same o.body.cells), all.0.room) }, room-map is f same os all.1)
 
@@ -121,7 +121,7 @@ room-push : (os : List (Object Name ℕ)) (o : Object Name ℕ) → AllByRecursi
 room-push [] o all here = (here, tt)
 room-push (x ∷ os) o all here = (all.0, room-push os o all.1 here)
 
-sound-died : (is : Name → Bool) (h : Words) → IsSound h → IsSound (with_died is h)
+sound-died : (is : Name → Bool) (h : Words) → IsSound h → IsSound (with_dead is h)
 sound-died is h s = record {
   one_live = λ t. omega (arith, live_count-died (is_in t) h is, s.one_live t);
   no_higher = λ t v above. made_count-died (is_at (Some t) v) h is ∙ s.no_higher t v (subst (λ n. n < v) (made_count-died (is_in t) h is) above);
@@ -149,22 +149,22 @@ is_slot-is s t e =
 
 -- a new object whose slot has no live one, and whose version is the next
 module _ (o : Object Name ℕ) (h : Words) (none : live_count (is_in o.name.slot) h ≡ 0) (next : o.name.version ≡ 1 + made_count (is_in o.name.slot) h) (s : IsSound h) where
-  one_live-made : (t : Slot) → live_count (is_in t) (with_made o h) ≤ 1
+  one_live-made : (t : Slot) → live_count (is_in t) (with_new o h) ≤ 1
   one_live-made t = go (is_in t o.name) refl
     where
-      go : (b : Bool) → is_in t o.name ≡ b → live_count (is_in t) (with_made o h) ≤ 1
+      go : (b : Bool) → is_in t o.name ≡ b → live_count (is_in t) (with_new o h) ≤ 1
       go true e =
           let here : live_count (is_in t) h ≡ 0 = subst (λ u. live_count (is_in u) h ≡ 0) (is_slot-is o.name.slot t e) none in
           omega (arith, live_count-made (is_in t) h o, ap one_if e, here)
       go false e = omega (arith, live_count-made (is_in t) h o, ap one_if e, s.one_live t)
 
-  made-is : (is : Name → Bool) → made_count is (with_made o h) ≡ made_count is h + one_if (is o.name)
+  made-is : (is : Name → Bool) → made_count is (with_new o h) ≡ made_count is h + one_if (is o.name)
   made-is is = omega (arith, live_count-made is h o)
 
-  no_higher-made : (t : Slot) (v : ℕ) → made_count (is_in t) (with_made o h) < v → made_count (is_at (Some t) v) (with_made o h) ≡ 0
+  no_higher-made : (t : Slot) (v : ℕ) → made_count (is_in t) (with_new o h) < v → made_count (is_at (Some t) v) (with_new o h) ≡ 0
   no_higher-made t v above = go (is_in t o.name) (o.name.version == v) refl refl
     where
-      go : (b c : Bool) → is_in t o.name ≡ b → o.name.version == v ≡ c → made_count (is_at (Some t) v) (with_made o h) ≡ 0
+      go : (b c : Bool) → is_in t o.name ≡ b → o.name.version == v ≡ c → made_count (is_at (Some t) v) (with_new o h) ≡ 0
       go true true e d =
           let here : o.name.version ≡ 1 + made_count (is_in t) h = subst (λ u. o.name.version ≡ 1 + made_count (is_in u) h) (is_slot-is o.name.slot t e) next in
           absurd (omega (arith, here, eqb-true _ _ d, above, made-is (is_in t), ap one_if e))
@@ -175,10 +175,10 @@ module _ (o : Object Name ℕ) (h : Words) (none : live_count (is_in o.name.slot
           let less : made_count (is_in t) h < v = omega (arith, above, made-is (is_in t)) in
           made-is (is_at (Some t) v) ∙ (λ i. s.no_higher t v less i + one_if (e i && (o.name.version == v)))
 
-  one_version-made : (t : Slot) (v : ℕ) → made_count (is_at (Some t) v) (with_made o h) ≤ 1
+  one_version-made : (t : Slot) (v : ℕ) → made_count (is_at (Some t) v) (with_new o h) ≤ 1
   one_version-made t v = go (is_in t o.name) (o.name.version == v) refl refl
     where
-      go : (b c : Bool) → is_in t o.name ≡ b → o.name.version == v ≡ c → made_count (is_at (Some t) v) (with_made o h) ≤ 1
+      go : (b c : Bool) → is_in t o.name ≡ b → o.name.version == v ≡ c → made_count (is_at (Some t) v) (with_new o h) ≤ 1
       go true true e d =
           let here : o.name.version ≡ 1 + made_count (is_in t) h = subst (λ u. o.name.version ≡ 1 + made_count (is_in u) h) (is_slot-is o.name.slot t e) next in
           let less : made_count (is_in t) h < v = omega (arith, here, eqb-true _ _ d) in
@@ -191,7 +191,7 @@ module _ (o : Object Name ℕ) (h : Words) (none : live_count (is_in o.name.slot
           let both : one_if (is_in t o.name && (o.name.version == v)) ≡ 0 = λ i. one_if (e i && (o.name.version == v)) in
           omega (arith, made-is (is_at (Some t) v), s.one_version t v, both)
 
-  pub sound-made : HasRoom o → IsSound (with_made o h)
+  pub sound-made : HasRoom o → IsSound (with_new o h)
   sound-made here = record { one_live = one_live-made; no_higher = no_higher-made; one_version = one_version-made; room = room-push h.live o s.room here }
 
 -- ---- whole histories
@@ -200,7 +200,7 @@ pub slot_at-is : (h : Words) (r word : ℕ) (m : MayPlace h r word) → slot_at 
 unfolding slot_at
 slot_at-is h r word m = rw m.slot_is
 
-sound-placed : (h : Words) (r worker number elem size word : ℕ) (fixed : Bool) → class_of size ≡ Some r → MayPlace h r word → IsSound h → IsSound (with_made (new_object worker number elem size fixed word) h)
+sound-placed : (h : Words) (r worker number elem size word : ℕ) (fixed : Bool) → class_of size ≡ Some r → MayPlace h r word → IsSound h → IsSound (with_new (new_object worker number elem size fixed word) h)
 sound-placed h r worker number elem size word fixed home m s =
     let e = slot_at-is h r word m in
     sound-made (new_object worker number elem size fixed word) h

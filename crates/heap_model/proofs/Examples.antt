@@ -2,8 +2,8 @@
 use Rattle.std.proofs.Common.{◌≡◌, ℕ, ◌+◌, ◌-◌, ◌^◌, pos, negsuc, true, false, List, [], ◌∷◌, map, Some, None, refl}
 use Rattle.heap_model.specs.Regions.{slot_of, slot_in, region_of, size_of, sizes, first_multiple, slots, slot_address, slot_base, address_of, version_of, offset_in, class_of}
 use Rattle.heap_model.specs.Reaches.{narrow, inside, may_escape, same_slot, slot_bounds, moved}
-use Rattle.heap_model.specs.Cells.{Number, Byte, Gave, Refused, Loads, parts, zeros, access_outcome, misplaced, loaded, stored, cleared, put, extended}
-use Rattle.heap_model.specs.Heap.{full}
+use Rattle.heap_model.specs.Cells.{Number, Byte, Gave, Refused, Loads, parts, zeros, access_outcome, access_report, load_outcome, cells_after_store, without_pointer, put, sign_extension}
+use Rattle.heap_model.specs.Heap.{is_full}
 use Rattle.heap_model.specs.Answers.{answer_by, access, next, offset, slot_at, first_byte}
 use Rattle.heap_model.specs.Preference.{Preference}
 use Rattle.heap_model.specs.Forms.{region_for, suits_call}
@@ -36,7 +36,7 @@ reused =
     ∷ entry 2 (Alloc 8 24 false) (Placed w2) ∷ entry 3 (Load w1 whole I32) (Report Freed) ∷ []
 
 reused-legal : (preferred : Preference) → IsLegal preferred reused
-unfolding answer_by access next offset slot_at first_byte Answers AllocAnswers region_for full slot_of slot_in region_of size_of sizes first_multiple slots slot_address address_of version_of offset_in class_of
+unfolding answer_by access next offset slot_at first_byte Answers AllocAnswers region_for is_full slot_of slot_in region_of size_of sizes first_multiple slots slot_address address_of version_of offset_in class_of
 reused-legal preferred = (
   record { fits = refl; region_is = refl; answers = (refl, record { slot = record { region = 2; number = 0 }; slot_is = refl; of_region = refl; address = refl; no_live = refl; version = refl }) },
   (
@@ -52,24 +52,24 @@ reused-legal preferred = (
 )
 
 -- a store of a whole number into a pointer value makes all of it zero first
-cleared-first : stored {P = ℕ} U8 3 (Number 7) (parts 5) ≡ Byte 0 ∷ Byte 0 ∷ Byte 0 ∷ Byte 7 ∷ Byte 0 ∷ Byte 0 ∷ Byte 0 ∷ Byte 0 ∷ []
-unfolding stored cleared put
-cleared-first = refl
+without_pointer-first : cells_after_store {P = ℕ} U8 3 (Number 7) (parts 5) ≡ Byte 0 ∷ Byte 0 ∷ Byte 0 ∷ Byte 7 ∷ Byte 0 ∷ Byte 0 ∷ Byte 0 ∷ Byte 0 ∷ []
+unfolding cells_after_store without_pointer put
+without_pointer-first = refl
 
 pointer-bytes : access_outcome {P = ℕ} true 4 I32 Loads (parts 5) ≡ Refused PointerBytes
-unfolding access_outcome misplaced loaded
+unfolding access_outcome access_report load_outcome
 pointer-bytes = refl
 
 not-pointer : access_outcome {P = ℕ} true 0 Ptr Loads (Byte 1 ∷ zeros 7) ≡ Refused NotPointer
-unfolding access_outcome misplaced loaded
+unfolding access_outcome access_report load_outcome
 not-pointer = refl
 
 null-pointer : access_outcome {P = ℕ} true 0 Ptr Loads (zeros 8) ≡ Gave (Number 0)
-unfolding access_outcome misplaced loaded
+unfolding access_outcome access_report load_outcome
 null-pointer = refl
 
 signed-byte : access_outcome {P = ℕ} true 1 I8 Loads (Byte 0 ∷ Byte 255 ∷ []) ≡ Gave (Number (2 ^ 64 - 1))
-unfolding access_outcome misplaced loaded extended
+unfolding access_outcome access_report load_outcome sign_extension
 signed-byte = refl
 
 -- ---- regions
@@ -119,7 +119,7 @@ suits-null = (refl, refl)
 
 -- a signed byte is extended: 128 is no such number, and -128 is
 suits-signed : (suits_call (Load w1 whole I8) (Moved (record { bits = 128; pointer = false })) ≡ false) × (suits_call (Load w1 whole I8) (Moved (record { bits = 2 ^ 64 - 128; pointer = false })) ≡ true)
-unfolding extended
+unfolding sign_extension
 suits-signed = (refl, refl)
 
 suits-pointers : (suits_call (Load w1 whole Word) (Moved (record { bits = w1; pointer = true })) ≡ true) × (suits_call (Load w1 whole I64) (Moved (record { bits = w1; pointer = true })) ≡ false) × (suits_call (Load w1 whole Ptr) (Moved (record { bits = 5; pointer = true })) ≡ false)

@@ -11,6 +11,7 @@ pub mod Examples
 pub mod State
 pub mod Push
 pub mod Performed
+pub mod Checks
 pub mod Puts
 pub mod Sorting
 pub mod Unique

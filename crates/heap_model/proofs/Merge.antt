@@ -4,7 +4,7 @@ use Rattle.std.proofs.lemmas.Bool.{cases_eq, or_left, lt-ltb}
 use Rattle.std.specs.List.{AllByRecursion}
 use Rattle.heap_model.specs.Preference.{Preference}
 use Rattle.heap_model.specs.Legal.{own, of_region, IsLegal, CountsFrom, IsWellNumbered, InRegions}
-use Rattle.heap_model.specs.Order.{before, Rises, StampsRise, IsMerge, Kept, IsRecord}
+use Rattle.heap_model.specs.Order.{before, Rises, StampsRise, IsMerge, ArePasses, IsRecord}
 use Rattle.heap_model.proofs.Lists.{filter-comm}
 use Rattle.heap_model.proofs.RegionsLaw as regions
 use Rattle.heap_model.proofs.RegionsLaw.{of_region-here, of_region-there}
@@ -96,12 +96,12 @@ Rises-own w (e ∷ es) rise = go (e.worker == w)
     go true all rest = (all, rest)
     go false all rest = rest
 
-pub own-is : (preferred : Preference) (parts passes : ℕ → List Entry) (history : List Entry) → Kept preferred parts passes → IsMerge parts history → (w : ℕ) → own history w ≡ passes w
+pub own-is : (preferred : Preference) (parts passes : ℕ → List Entry) (history : List Entry) → ArePasses preferred parts passes → IsMerge parts history → (w : ℕ) → own history w ≡ passes w
 own-is preferred parts passes history k m w =
     same_by_regions (own history w) (passes w) (Rises-own w history m.order) (Rises-from (passes w) (k.pass_stamps w))
     (λ r. filter-comm (λ e. e.region == r) (λ e. e.worker == w) history ∙ ap (λ es. own es w) (m.regions r) ∙ k.same w r)
 
-pub law : (preferred : Preference) (parts passes : ℕ → List Entry) (history : List Entry) → Kept preferred parts passes → IsMerge parts history → InRegions history → IsRecord preferred passes history
+pub law : (preferred : Preference) (parts passes : ℕ → List Entry) (history : List Entry) → ArePasses preferred parts passes → IsMerge parts history → InRegions history → IsRecord preferred passes history
 law preferred parts passes history k m in' =
     let o = own-is preferred parts passes history k m in
     let n : IsWellNumbered history = λ w. subst (CountsFrom 0) (sym (o w)) (k.numbers w) in

@@ -5,10 +5,10 @@ use Rattle.std.proofs.lemmas.Bool.{leb-true, eqb-true, and_parts}
 use Rattle.std.proofs.lemmas.Option.{same_Some, none-some}
 use Rattle.type_layout.specs.declared.preference.Bounds as bounds
 use Rattle.heap_model.specs.Regions.{address_of, version_of}
-use Rattle.heap_model.specs.Cells.{Act, Loads, Stores, Adds, width, misplaced, refused_or, placed_outcome, access_outcome, cells_at}
+use Rattle.heap_model.specs.Cells.{Act, Loads, Stores, Adds, width, access_report, report_or, outcome_inside, access_outcome, cells_at}
 use Rattle.heap_model.specs.Heap.{Body, access_at, empty}
 use Rattle.heap_model.specs.Preference.{Preference}
-use Rattle.heap_model.specs.Answers.{Words, access, answer, answer_by, live_in, reply, offset, is_inside, datum, check_reply, found, first_byte}
+use Rattle.heap_model.specs.Answers.{Words, access, answer, answer_by, live_in, reply, offset, is_inside, datum, check_reply, found_reply, first_byte}
 use Rattle.heap_model.specs.Legal.{Answers, IsLegal, IsLegalFrom, Meets, after, replay}
 use Rattle.heap_model.specs.Performed.{Access, access_of, is_report, IsInside, AreFound, AccessesLaw, FoundLaw}
 use Rattle.heap_model.specs.declared.calls.AccessKind.{AccessKind}
@@ -23,8 +23,8 @@ use Rattle.heap_model.specs.declared.calls.Entry.{Entry}
 
 -- ---- one access
 
-placed-fits : (inside : Bool) (k w size : ℕ) → misplaced inside k w size ≡ None → (inside ≡ true) × (k + w ≤ size) × (k % w ≡ 0)
-unfolding misplaced
+placed-fits : (inside : Bool) (k w size : ℕ) → access_report inside k w size ≡ None → (inside ≡ true) × (k + w ≤ size) × (k % w ≡ 0)
+unfolding access_report
 placed-fits inside k w size e = go inside (nat_le (k + w) size) (k % w == 0) refl refl refl
   where
     wrong : (f : ReportKind) → Some f ≡ None → ⊥
@@ -58,8 +58,8 @@ placed h p reach kind act fine = go (version_of p == 0) (live_in h reach.lo p) r
     inside : Bool
     inside = is_inside reach (address_of p) (width kind)
 
-    at : (b : Body ℕ) → live_in h reach.lo p ≡ Some b → (m : Option ReportKind) → misplaced inside (offset reach.lo p) (width kind) (length b.cells) ≡ m
-        → is_report (reply (refused_or m (placed_outcome kind act (cells_at (offset reach.lo p) (width kind) b.cells)))) ≡ false
+    at : (b : Body ℕ) → live_in h reach.lo p ≡ Some b → (m : Option ReportKind) → access_report inside (offset reach.lo p) (width kind) (length b.cells) ≡ m
+        → is_report (reply (report_or m (outcome_inside kind act (cells_at (offset reach.lo p) (width kind) b.cells)))) ≡ false
         → IsInside h (record { word = p; reach = reach; kind = kind })
     at b found None e fine =
         let ok = placed-fits inside (offset reach.lo p) (width kind) (length b.cells) e in
@@ -72,7 +72,7 @@ placed h p reach kind act fine = go (version_of p == 0) (live_in h reach.lo p) r
         → IsInside h (record { word = p; reach = reach; kind = kind })
     go true o found fine = absurd (not_report Null fine)
     go false None found fine = absurd (not_report Free fine)
-    go false (Some b) found fine = at b found (misplaced inside (offset reach.lo p) (width kind) (length b.cells)) refl fine
+    go false (Some b) found fine = at b found (access_report inside (offset reach.lo p) (width kind) (length b.cells)) refl fine
 
 -- ---- an entry of a legal history
 
@@ -101,7 +101,7 @@ module _ (preferred : Preference) where
   -- ---- a check
 
   looked_up : (h : Words) (p want first k : ℕ) (b : Body ℕ) (reach : Reach) → live_in h (address_of p) p ≡ Some b → first ≡ first_byte (address_of p) → k ≡ offset (address_of p) p
-      → (o : Option bounds.Bounds) → preferred b.elem (length b.cells) k want ≡ o → found first o ≡ Found reach → AreFound preferred h p want reach
+      → (o : Option bounds.Bounds) → preferred b.elem (length b.cells) k want ≡ o → found_reply first o ≡ Found reach → AreFound preferred h p want reach
   looked_up h p want first k b reach named at_first at_k None e given = absurd (not_found WrongType reach given)
   looked_up h p want first k b reach named at_first at_k (Some o) e given =
       let same = same_Found _ _ given in

@@ -4,7 +4,7 @@ use Rattle.std.proofs.lemmas.Bool.{eqb-true, eq-eqb, ne_eqb, and_parts}
 use Rattle.std.proofs.lemmas.Option.{same_Some, none-some}
 use Rattle.heap_model.specs.Regions.{Slot, slot_of, slot_in, region_of, address_of, version_of}
 use Rattle.heap_model.specs.Cells.{Act, Loads, Stores, Adds}
-use Rattle.heap_model.specs.Heap.{part, live_body, has_dead, full, is_of}
+use Rattle.heap_model.specs.Heap.{part, live_body, has_dead, is_full, is_of}
 use Rattle.heap_model.specs.Answers.{Name, region, Words, is_in, is_at, names, slot_at, datum, reply, access, answer_by, Live, Dead, live_in, dead_in, answer, new_object, next}
 use Rattle.heap_model.specs.Preference.{Preference}
 use Rattle.heap_model.specs.Forms.{region_or_one, region_for}
@@ -77,8 +77,8 @@ module _ (r : ℕ) (h : Words) where
   answer-within preferred call home =
       answer_by-agree r (live_in (within r h)) (live_in h) (dead_in (within r h)) (dead_in h) live-within dead-within preferred call home
 
-  full-within : full region (within r h) r ≡ full region h r
-  unfolding full
+  full-within : is_full region (within r h) r ≡ is_full region h r
+  unfolding is_full
   full-within = rw (parts.live_count-part (is_of region r) (is_of region r) h (λ n e. e), parts.dead_count-part (is_of region r) (is_of region r) h (λ n e. e))
 
   in-within : (s : Slot) → s.region ≡ r → Within (is_in s) (is_of region r)

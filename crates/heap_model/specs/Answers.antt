@@ -1,8 +1,8 @@
 -- What the heap of a history answers. Its pointer values are words.
 use Rattle.std.specs.Prelude.{ℕ, ◌+◌, Bool, true, false, ◌&&◌, ◌==◌, nat_le, if◌then◌else◌, length, Option, Some, None, unwrap_or}
-use Rattle.heap_model.specs.Regions.{Slot, is_slot, slot_of, slot_address, address_of, version_of, offset_in}
+use Rattle.heap_model.specs.Regions.{header_bytes, Slot, is_slot, slot_of, slot_address, address_of, version_of, offset_in}
 use Rattle.heap_model.specs.Cells.{zeros, Datum, Number, Pointer, Act, Loads, Stores, Adds, Outcome, Did, Gave, Refused, width, access_cells}
-use Rattle.heap_model.specs.Heap.{Body, Object, Heap, live_body, has_dead, free_outcome, access_at, with_made, with_died, with_cells}
+use Rattle.heap_model.specs.Heap.{Body, Object, Heap, live_body, has_dead, free_outcome, access_at, with_new, with_dead, with_cells}
 use Rattle.heap_model.specs.Preference.{Preference}
 use Rattle.type_layout.specs.declared.preference.Bounds.{Bounds}
 use Rattle.heap_model.specs.declared.calls.AccessKind.{AccessKind}
@@ -44,13 +44,13 @@ names anchor word = is_at (slot_of anchor) (version_of word)
 unfoldable pub slot_at : ℕ → Slot
 slot_at address = unwrap_or (slot_of address) (record { region = 0; number = 0 })
 
--- how far a word is behind the first byte of the object that it names by the anchor
+-- how far a word is past the first byte of the object that it names by the anchor
 unfoldable pub offset : ℕ → ℕ → ℕ
 offset anchor word = offset_in (slot_at anchor) (address_of word)
 
 -- the address of the first byte
 unfoldable pub first_byte : ℕ → ℕ
-first_byte anchor = slot_address (slot_at anchor) + 16
+first_byte anchor = slot_address (slot_at anchor) + header_bytes
 
 -- ---- replies
 
@@ -66,13 +66,13 @@ reply Did = Done
 reply (Gave d) = Moved (value d)
 reply (Refused kind) = Report kind
 
-abbrev pub found : ℕ → Option Bounds → Reply
-found first None = Report WrongType
-found first (Some b) = Found (record { lo = first + b.lo; hi = first + b.hi })
+abbrev pub found_reply : ℕ → Option Bounds → Reply
+found_reply first None = Report WrongType
+found_reply first (Some b) = Found (record { lo = first + b.lo; hi = first + b.hi })
 
 abbrev pub check_reply : Preference → ℕ → ℕ → ℕ → Option (Body ℕ) → Reply
 check_reply preferred k first want None = Report Freed
-check_reply preferred k first want (Some o) = found first (preferred o.elem (length o.cells) k want)
+check_reply preferred k first want (Some o) = found_reply first (preferred o.elem (length o.cells) k want)
 
 -- whether the bytes of an access are inside its reach
 abbrev pub is_inside : Reach → ℕ → ℕ → Bool
@@ -127,12 +127,12 @@ new_object worker number elem size fixed word =
       body = record { elem = elem; fixed = fixed; cells = zeros size };
     }
 
-abbrev pub accessed : ℕ → Reach → AccessKind → Act ℕ → Words → Words
-accessed p reach kind act h = with_cells (names reach.lo p) (access_cells (offset reach.lo p) kind act) h
+abbrev pub after_access : ℕ → Reach → AccessKind → Act ℕ → Words → Words
+after_access p reach kind act h = with_cells (names reach.lo p) (access_cells (offset reach.lo p) kind act) h
 
 unfoldable pub next : ℕ → ℕ → Words → Call → Reply → Words
-next worker number h (Alloc elem size fixed) (Placed word) = with_made (new_object worker number elem size fixed word) h
-next worker number h (Free p fixed) Done = with_died (names (address_of p) p) h
-next worker number h (Store p reach kind v) Done = accessed p reach kind (Stores (datum v)) h
-next worker number h (Add p reach kind n) (Moved v) = accessed p reach kind (Adds n) h
+next worker number h (Alloc elem size fixed) (Placed word) = with_new (new_object worker number elem size fixed word) h
+next worker number h (Free p fixed) Done = with_dead (names (address_of p) p) h
+next worker number h (Store p reach kind v) Done = after_access p reach kind (Stores (datum v)) h
+next worker number h (Add p reach kind n) (Moved v) = after_access p reach kind (Adds n) h
 next worker number h _ _ = h

@@ -70,21 +70,21 @@ pointer_in (Byte b ∷ cells) = None
 pointer_in (Part i p ∷ cells) = Some p
 
 -- a number of a signed kind as 64 bits
-unfoldable pub extended : AccessKind → ℕ → ℕ
-extended kind n =
+unfoldable pub sign_extension : AccessKind → ℕ → ℕ
+sign_extension kind n =
     let top = 2 ^ (8 * width kind) in
     if is_signed kind && nat_le top (2 * n) then n + 2 ^ 64 - top else n
 
 -- what a load of this kind gives, by the number and the pointer value that stand there
-unfoldable pub loaded : {P : Type 0} → AccessKind → Option ℕ → Option P → Outcome P
-loaded Ptr n (Some p) = Gave (Pointer p)
-loaded Ptr (Some zero) None = Gave (Number 0)
-loaded Ptr _ None = Refused NotPointer
-loaded Word n (Some p) = Gave (Pointer p)
-loaded Word (Some n) None = Gave (Number n)
-loaded Word None None = Refused PointerBytes
-loaded kind (Some n) p = Gave (Number (extended kind n))
-loaded kind None p = Refused PointerBytes
+unfoldable pub load_outcome : {P : Type 0} → AccessKind → Option ℕ → Option P → Outcome P
+load_outcome Ptr n (Some p) = Gave (Pointer p)
+load_outcome Ptr (Some zero) None = Gave (Number 0)
+load_outcome Ptr _ None = Refused NotPointer
+load_outcome Word n (Some p) = Gave (Pointer p)
+load_outcome Word (Some n) None = Gave (Number n)
+load_outcome Word None None = Refused PointerBytes
+load_outcome kind (Some n) p = Gave (Number (sign_extension kind n))
+load_outcome kind None p = Refused PointerBytes
 
 -- the w cells at k
 abbrev pub cells_at : {P : Type 0} → ℕ → ℕ → List (Cell P) → List (Cell P)
@@ -98,45 +98,45 @@ put zero (c ∷ new) (cell ∷ cells) = c ∷ put zero new cells
 put (suc k) new (cell ∷ cells) = cell ∷ put k new cells
 
 -- a part of a pointer value becomes a zero byte
-abbrev pub unmarked : {P : Type 0} → Cell P → Cell P
-unmarked (Byte b) = Byte b
-unmarked (Part i p) = Byte 0
+abbrev pub without_mark : {P : Type 0} → Cell P → Cell P
+without_mark (Byte b) = Byte b
+without_mark (Part i p) = Byte 0
 
 -- the aligned piece of eight cells round k, without a pointer value
-unfoldable pub cleared : {P : Type 0} → ℕ → List (Cell P) → List (Cell P)
-cleared k cells = let from = 8 * (k / 8) in put from (map unmarked (cells_at from 8 cells)) cells
+unfoldable pub without_pointer : {P : Type 0} → ℕ → List (Cell P) → List (Cell P)
+without_pointer k cells = let from = 8 * (k / 8) in put from (map without_mark (cells_at from 8 cells)) cells
 
-unfoldable pub stored : {P : Type 0} → AccessKind → ℕ → Datum P → List (Cell P) → List (Cell P)
-stored kind k (Number n) cells = put k (bytes (width kind) n) (cleared k cells)
-stored kind k (Pointer p) cells = put k (parts p) cells
+unfoldable pub cells_after_store : {P : Type 0} → AccessKind → ℕ → Datum P → List (Cell P) → List (Cell P)
+cells_after_store kind k (Number n) cells = put k (bytes (width kind) n) (without_pointer k cells)
+cells_after_store kind k (Pointer p) cells = put k (parts p) cells
 
 -- the number there plus another, modulo the kind's width
-unfoldable pub added : {P : Type 0} → AccessKind → ℕ → ℕ → Option ℕ → List (Cell P) → List (Cell P)
-added kind k n None cells = cells
-added kind k n (Some old) cells = put k (bytes (width kind) (old + n)) cells
+unfoldable pub cells_after_add : {P : Type 0} → AccessKind → ℕ → ℕ → Option ℕ → List (Cell P) → List (Cell P)
+cells_after_add kind k n None cells = cells
+cells_after_add kind k n (Some old) cells = put k (bytes (width kind) (old + n)) cells
 
--- the tests on the place of an access: whether its bytes are inside the reach, its offset, its width, the object's size
-unfoldable pub misplaced : Bool → ℕ → ℕ → ℕ → Option ReportKind
-misplaced inside k w size =
+-- the tests on where an access is: whether its bytes are inside the reach, its offset, its width, the object's size
+unfoldable pub access_report : Bool → ℕ → ℕ → ℕ → Option ReportKind
+access_report inside k w size =
     if inside && nat_le (k + w) size then (if k % w == 0 then None else Some Align) else Some Bounds
 
--- what an access answers that is in its place, by the cells that it covers
-abbrev pub placed_outcome : {P : Type 0} → AccessKind → Act P → List (Cell P) → Outcome P
-placed_outcome kind Loads cells = loaded kind (number_in cells) (pointer_in cells)
-placed_outcome kind (Stores d) cells = Did
-placed_outcome kind (Adds n) cells = loaded kind (number_in cells) None
+-- what an access answers that passes these tests, by the cells that it covers
+abbrev pub outcome_inside : {P : Type 0} → AccessKind → Act P → List (Cell P) → Outcome P
+outcome_inside kind Loads cells = load_outcome kind (number_in cells) (pointer_in cells)
+outcome_inside kind (Stores d) cells = Did
+outcome_inside kind (Adds n) cells = load_outcome kind (number_in cells) None
 
-abbrev pub refused_or : {P : Type 0} → Option ReportKind → Outcome P → Outcome P
-refused_or (Some kind) outcome = Refused kind
-refused_or None outcome = outcome
+abbrev pub report_or : {P : Type 0} → Option ReportKind → Outcome P → Outcome P
+report_or (Some kind) outcome = Refused kind
+report_or None outcome = outcome
 
 -- what an access at offset k of an object with these cells answers
 unfoldable pub access_outcome : {P : Type 0} → Bool → ℕ → AccessKind → Act P → List (Cell P) → Outcome P
 access_outcome inside k kind act cells =
-    refused_or (misplaced inside k (width kind) (length cells)) (placed_outcome kind act (cells_at k (width kind) cells))
+    report_or (access_report inside k (width kind) (length cells)) (outcome_inside kind act (cells_at k (width kind) cells))
 
 -- and what it leaves, where that is no report
 unfoldable pub access_cells : {P : Type 0} → ℕ → AccessKind → Act P → List (Cell P) → List (Cell P)
 access_cells k kind Loads cells = cells
-access_cells k kind (Stores d) cells = stored kind k d cells
-access_cells k kind (Adds n) cells = added kind k n (number_in (cells_at k (width kind) cells)) cells
+access_cells k kind (Stores d) cells = cells_after_store kind k d cells
+access_cells k kind (Adds n) cells = cells_after_add kind k n (number_in (cells_at k (width kind) cells)) cells

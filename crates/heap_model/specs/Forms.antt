@@ -1,7 +1,7 @@
 -- The calls that may be made, the regions that they are made in, and the replies that may come.
 use Rattle.std.specs.Prelude.{ℕ, ◌*◌, ◌^◌, ◌%◌, Bool, true, false, not, ◌&&◌, ◌||◌, ◌==◌, nat_lt, if◌then◌else◌, Option, Some, unwrap_or}
 use Rattle.heap_model.specs.Regions.{class_of, region_of, address_of, version_of}
-use Rattle.heap_model.specs.Cells.{width, extended}
+use Rattle.heap_model.specs.Cells.{width, sign_extension}
 use Rattle.heap_model.specs.declared.calls.AccessKind.{AccessKind}
 use Rattle.heap_model.specs.declared.calls.AccessKind.TheVariants.{Ptr, Word}
 use Rattle.heap_model.specs.declared.calls.Value.{Value}
@@ -57,13 +57,13 @@ fits_call _ = true
 -- A plain number that a kind can give: null of a pointer, else what its low bytes give again.
 abbrev pub can_give : AccessKind → ℕ → Bool
 can_give Ptr n = n == 0
-can_give kind n = extended kind (n % 2 ^ (8 * width kind)) == n
+can_give kind n = sign_extension kind (n % 2 ^ (8 * width kind)) == n
 
 -- a value that a kind can give, of which a pointer is not null
 abbrev pub gives_value : AccessKind → Value → Bool
 gives_value kind v = if v.pointer then not (is_number kind) && has_version v.bits else can_give kind v.bits
 
--- the reports on the place of an access
+-- the reports that come before an access is made
 abbrev pub is_access_report : ReportKind → Bool
 is_access_report Null = true
 is_access_report Freed = true

@@ -1,11 +1,11 @@
 -- Heaps of objects. N is the type of their names and P that of pointer values.
-use Rattle.std.specs.Prelude.{ℕ, ◌+◌, ◌-◌, ◌^◌, Bool, true, false, not, ◌||◌, ◌==◌, if◌then◌else◌, List, [], ◌∷◌, ◌++◌, map, length, filter, find, ◌&&◌, option_map, Option, Some, None}
+use Rattle.std.specs.Prelude.{ℕ, ◌+◌, Bool, true, false, not, ◌||◌, ◌==◌, if◌then◌else◌, List, [], ◌∷◌, ◌++◌, map, length, filter, find, ◌&&◌, option_map, Option, Some, None}
 use Rattle.std.specs.Bool.{beq}
 use Rattle.std.specs.List.{list_any}
 use Rattle.heap_model.specs.Cells.{Cell, Act, Outcome, Did, Refused, access_outcome}
 use Rattle.heap_model.specs.declared.calls.AccessKind.{AccessKind}
 use Rattle.heap_model.specs.declared.calls.ReportKind.TheVariants.{Free, BadFree, DoubleFree}
-use Rattle.heap_model.specs.Regions.{slots}
+use Rattle.heap_model.specs.Regions.{max_objects, slots}
 
 -- what a live object is, but for its name. Its size is the number of its cells
 pub record Body (P : Type 0) : Type 0 where
@@ -48,8 +48,8 @@ made_count is h = live_count is h + dead_count is h
 abbrev pub is_of : {N : Type 0} → (N → ℕ) → ℕ → N → Bool
 is_of region r n = region n == r
 
-unfoldable pub full : {N P : Type 0} → (N → ℕ) → Heap N P → ℕ → Bool
-full region h r = (live_count (is_of region r) h == slots r) || (made_count (is_of region r) h == 2 ^ 24 - 1)
+unfoldable pub is_full : {N P : Type 0} → (N → ℕ) → Heap N P → ℕ → Bool
+is_full region h r = (live_count (is_of region r) h == slots r) || (made_count (is_of region r) h == max_objects)
 
 -- ---- what is done at one object, if there is a live one that is named
 
@@ -66,23 +66,23 @@ access_at inside k kind act (Some o) = access_outcome inside k kind act o.cells
 -- ---- the next heap
 
 -- a further object
-abbrev pub with_made : {N P : Type 0} → Object N P → Heap N P → Heap N P
-with_made o h = record { live = h.live ++ o ∷ []; dead = h.dead }
+abbrev pub with_new : {N P : Type 0} → Object N P → Heap N P → Heap N P
+with_new o h = record { live = h.live ++ o ∷ []; dead = h.dead }
 
 -- the objects whose names pass die
-abbrev pub with_died : {N P : Type 0} → (N → Bool) → Heap N P → Heap N P
-with_died is h =
+abbrev pub with_dead : {N P : Type 0} → (N → Bool) → Heap N P → Heap N P
+with_dead is h =
     record {
       live = filter (λ o. not (is o.name)) h.live;
       dead = map (λ o. o.name) (filter (λ o. is o.name) h.live) ++ h.dead;
     }
 
-abbrev pub recelled : {N P : Type 0} → (N → Bool) → (List (Cell P) → List (Cell P)) → Object N P → Object N P
-recelled is f o = record { name = o.name; body = record { elem = o.body.elem; fixed = o.body.fixed; cells = if is o.name then f o.body.cells else o.body.cells } }
+abbrev pub with_cells_if : {N P : Type 0} → (N → Bool) → (List (Cell P) → List (Cell P)) → Object N P → Object N P
+with_cells_if is f o = record { name = o.name; body = record { elem = o.body.elem; fixed = o.body.fixed; cells = if is o.name then f o.body.cells else o.body.cells } }
 
 -- the cells of the objects whose names pass change
 abbrev pub with_cells : {N P : Type 0} → (N → Bool) → (List (Cell P) → List (Cell P)) → Heap N P → Heap N P
-with_cells is f h = record { live = map (recelled is f) h.live; dead = h.dead }
+with_cells is f h = record { live = map (with_cells_if is f) h.live; dead = h.dead }
 
 -- the part of a heap whose names pass
 abbrev pub part : {N P : Type 0} → (N → Bool) → Heap N P → Heap N P

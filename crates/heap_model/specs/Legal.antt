@@ -1,7 +1,7 @@
 -- Legal histories.
 use Rattle.std.specs.Prelude.{ℕ, ◌↔◌, ◌≡◌, ◌+◌, suc, ◌≤◌, Bool, true, false, ◌&&◌, ◌==◌, nat_le, List, [], ◌∷◌, length, filter, Some}
-use Rattle.heap_model.specs.Regions.{Slot, slot_of, slot_address, address_of, version_of}
-use Rattle.heap_model.specs.Heap.{Object, empty, live_count, made_count, full}
+use Rattle.heap_model.specs.Regions.{last_region, header_bytes, Slot, slot_of, slot_address, address_of, version_of}
+use Rattle.heap_model.specs.Heap.{Object, empty, live_count, made_count, is_full}
 use Rattle.heap_model.specs.Answers.{Name, region, Words, is_in, is_at, answer, next}
 use Rattle.heap_model.specs.Preference.{Preference}
 use Rattle.heap_model.specs.Forms.{region_for, fits_call}
@@ -16,14 +16,14 @@ pub record MayPlace (h : Words) (r word : ℕ) : Type 0 where
   pub slot : Slot
   pub slot_is : slot_of (address_of word) ≡ Some slot
   pub of_region : slot.region ≡ r
-  pub address : address_of word ≡ slot_address slot + 16
+  pub address : address_of word ≡ slot_address slot + header_bytes
   pub no_live : live_count (is_in slot) h ≡ 0
   pub version : version_of word ≡ 1 + made_count (is_in slot) h
 
 -- the heap may give this reply to an allocation in a region
 unfoldable pub AllocAnswers : Words → ℕ → Reply → Type 0
-AllocAnswers h r NoSlot = full region h r ≡ true
-AllocAnswers h r (Placed word) = (full region h r ≡ false) × MayPlace h r word
+AllocAnswers h r NoSlot = is_full region h r ≡ true
+AllocAnswers h r (Placed word) = (is_full region h r ≡ false) × MayPlace h r word
 AllocAnswers h r _ = ⊥
 
 -- the heap may give this reply to the call, in its region
@@ -71,17 +71,17 @@ IsWellNumbered history = (w : ℕ) → CountsFrom 0 (own history w)
 -- each entry is of one of the regions
 abbrev pub InRegions : List Entry → Type 0
 InRegions [] = Unit {0}
-InRegions (e ∷ es) = (1 ≤ e.region) × (e.region ≤ 27) × InRegions es
+InRegions (e ∷ es) = (1 ≤ e.region) × (e.region ≤ last_region) × InRegions es
 
 -- A history is legal exactly where its restriction to each region is.
 abbrev pub RegionsLaw : Type 0
 RegionsLaw =
     (preferred : Preference) (history : List Entry) → IsWellNumbered history → InRegions history
-    → (IsLegal preferred history ↔ ((r : ℕ) → 1 ≤ r → r ≤ 27 → IsLegal preferred (of_region r history)))
+    → (IsLegal preferred history ↔ ((r : ℕ) → 1 ≤ r → r ≤ last_region → IsLegal preferred (of_region r history)))
 
 -- whether an address is in the object, its end included
 abbrev pub covers : ℕ → Object Name ℕ → Bool
-covers a o = let first = slot_address o.name.slot + 16 in nat_le first a && nat_le a (first + length o.body.cells)
+covers a o = let first = slot_address o.name.slot + header_bytes in nat_le first a && nat_le a (first + length o.body.cells)
 
 -- each address is in at most one live object, and each version of a slot is that of at most one object
 pub record IsApart (h : Words) : Type 0 where

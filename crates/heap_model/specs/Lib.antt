@@ -7,6 +7,7 @@ pub mod Answers
 pub mod Forms
 pub mod Legal
 pub mod Performed
+pub mod Checks
 pub mod Order
 pub mod State
 pub mod History

@@ -29,7 +29,7 @@ pub record IsMerge (parts : ℕ → List Entry) (history : List Entry) : Type 0 
   pub order : Rises history
 
 -- what each region and each pass keeps
-pub record Kept (preferred : Preference) (parts passes : ℕ → List Entry) : Type 0 where
+pub record ArePasses (preferred : Preference) (parts passes : ℕ → List Entry) : Type 0 where
   pub legal : (r : ℕ) → IsLegal preferred (parts r)
   pub region_stamps : (r : ℕ) → StampsRise (parts r)
   pub pass_stamps : (w : ℕ) → StampsRise (passes w)
@@ -45,5 +45,5 @@ pub record IsRecord (preferred : Preference) (passes : ℕ → List Entry) (hist
 -- Region histories and callers' orders have one common extension.
 abbrev pub MergeLaw : Type 0
 MergeLaw =
-    (preferred : Preference) (parts passes : ℕ → List Entry) (history : List Entry) → Kept preferred parts passes → IsMerge parts history → InRegions history
+    (preferred : Preference) (parts passes : ℕ → List Entry) (history : List Entry) → ArePasses preferred parts passes → IsMerge parts history → InRegions history
     → IsRecord preferred passes history

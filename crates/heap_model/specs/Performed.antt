@@ -38,7 +38,7 @@ is_report (Found reach) = false
 is_report (Moved v) = false
 is_report (Report kind) = true
 
--- An access is in its place: its bytes are inside its reach and inside the live object that its word names, and aligned there.
+-- An access is inside: its bytes are inside its reach and inside the live object that its word names, and aligned there.
 pub record IsInside (h : Words) (at : Access) : Type 0 where
   pub body : Body ℕ
   pub named : live_in h at.reach.lo at.word ≡ Some body

@@ -1,7 +1,7 @@
 -- How whoever runs a program works with reaches and words: the bounds of a member, the tests of an access, of a pointer that
 -- is kept, of a comparison, and the arithmetic on pointers (C11 6.5.6).
 use Rattle.std.specs.Prelude.{ℕ, suc, ◌+◌, ◌-◌, ◌*◌, ◌%◌, ◌^◌, ℤ, pos, negsuc, Bool, false, ◌&&◌, ◌==◌, nat_le, min, max, Option, Some, None}
-use Rattle.heap_model.specs.Regions.{Slot, is_slot, slot_of, slot_base, region_of, size_of, address_of, version_of, pack}
+use Rattle.heap_model.specs.Regions.{header_bytes, Slot, is_slot, slot_of, slot_base, region_of, size_of, address_of, version_of, pack}
 use Rattle.heap_model.specs.declared.calls.Reach.{Reach}
 
 -- a reach that is cut to the addresses of a part of it
@@ -29,7 +29,7 @@ same_slot a b = (version_of a == version_of b) && are_one_slot (slot_of (address
 
 abbrev pub bounds_in : Option ℕ → ℕ → Reach
 bounds_in None base = record { lo = 0; hi = 0 }
-bounds_in (Some region) base = record { lo = base + 16; hi = base + size_of region - 1 }
+bounds_in (Some region) base = record { lo = base + header_bytes; hi = base + size_of region - 1 }
 
 -- the addresses that an object can have whose slot is that of a word, its end included; none for a word in no region
 unfoldable pub slot_bounds : ℕ → Reach

@@ -3,6 +3,29 @@
 use Rattle.std.specs.Prelude.{◌≡◌, ◌<◌, ◌≤◌, ℕ, ◌+◌, ◌-◌, ◌*◌, ◌/◌, ◌%◌, ◌^◌, Bool, ◌&&◌, ◌==◌, nat_lt, nat_le, if◌then◌else◌, min, List, [], ◌∷◌, length, slice_index, Option, Some, None, option_map}
 use Rattle.std.specs.List.{position_or_len}
 
+-- ---- limits
+
+-- the number of the last region
+abbrev pub last_region : ℕ
+last_region = 27
+
+-- the bytes of an object's header, before its first byte
+abbrev pub header_bytes : ℕ
+header_bytes = 16
+
+-- the bytes of the largest object
+abbrev pub max_object_bytes : ℕ
+max_object_bytes = 1048559
+
+-- how many objects a region makes at most: as many as versions tell apart
+abbrev pub max_objects : ℕ
+max_objects = 2 ^ 24 - 1
+
+abbrev pub IsRegion : ℕ → Type 0
+IsRegion region = (1 ≤ region) × (region ≤ last_region)
+
+-- ---- slots
+
 -- how many bytes a slot of each region has, from region 1 on
 unfoldable pub sizes : List ℕ
 sizes =
@@ -19,14 +42,14 @@ slots region = min 65536 (2 ^ 24 / size_of region)
 -- the region for an object of this size: the first with room for a header of 16 bytes and one byte past the object
 unfoldable pub class_of : ℕ → Option ℕ
 class_of size =
-    let place = position_or_len (λ s. nat_le (size + 17) s) sizes in
-    if nat_lt place (length sizes) then Some (place + 1) else None
+    let index = position_or_len (λ s. nat_le (size + 17) s) sizes in
+    if nat_lt index (length sizes) then Some (index + 1) else None
 
 -- the region of an address: region r has the 2 ^ 32 addresses from r * 2 ^ 32 on
 unfoldable pub region_of : ℕ → Option ℕ
 region_of address =
     let region = address / 2 ^ 32 in
-    if nat_lt 0 region && nat_le region 27 then Some region else None
+    if nat_lt 0 region && nat_le region last_region then Some region else None
 
 pub record Slot : Type 0 where
   pub region : ℕ
@@ -78,16 +101,16 @@ version_of word = word / 2 ^ 40
 abbrev pub pack : ℕ → ℕ → ℕ
 pack address version = version * 2 ^ 40 + address
 
--- how far an address is behind the first byte of the object in a slot, modulo 2^40
+-- how far an address is past the first byte of the object in a slot, modulo 2^40
 unfoldable pub offset_in : Slot → ℕ → ℕ
-offset_in s address = (address + 2 ^ 40 - (slot_address s + 16)) % 2 ^ 40
+offset_in s address = (address + 2 ^ 40 - (slot_address s + header_bytes)) % 2 ^ 40
 
 -- ---- laws
 
 -- a slot of a region
 pub record IsSlot (s : Slot) : Type 0 where
   pub from : 1 ≤ s.region
-  pub to : s.region ≤ 27
+  pub to : s.region ≤ last_region
   pub number : s.number < slots s.region
 
 -- Each address of a slot is in that slot alone, also the one past the end of an object in it.

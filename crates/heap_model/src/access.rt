@@ -32,7 +32,7 @@ pub fn low_bytes(kind: AccessKind, bits: u64) -> u64
 }
 
 /// A number of twice as many values as its sign bit counts, with that bit in each higher place.
-fn sign_extended(number: u64, sign: u64) -> u64
+fn extend_sign(number: u64, sign: u64) -> u64
     requires number { number < 2 * sign }
     requires sign { sign ≤ 2 ^ 63 }
     ensures { result ≡ (if nat_le (2 * sign) (2 * number) then number + 2 ^ 64 - 2 * sign else number) }
@@ -45,15 +45,15 @@ fn sign_extended(number: u64, sign: u64) -> u64
 }
 
 /// What a load gives of the number in its bytes: sign-extended to 64 bits for a signed kind (C11 6.3.1.3).
-#[tactic(auto, unfolding(crate::specs::Cells::extended))]
-pub fn extended(kind: AccessKind, number: u64) -> u64
+#[tactic(auto, unfolding(crate::specs::Cells::sign_extension))]
+pub fn sign_extension(kind: AccessKind, number: u64) -> u64
     requires { number < 2 ^ (8 * width kind) }
-    ensures { result ≡ spec.extended kind number }
+    ensures { result ≡ spec.sign_extension kind number }
 {
     match kind {
-        AccessKind::I8 => sign_extended(number, 1 << 7),
-        AccessKind::I16 => sign_extended(number, 1 << 15),
-        AccessKind::I32 => sign_extended(number, 1 << 31),
+        AccessKind::I8 => extend_sign(number, 1 << 7),
+        AccessKind::I16 => extend_sign(number, 1 << 15),
+        AccessKind::I32 => extend_sign(number, 1 << 31),
         _ => number,
     }
 }

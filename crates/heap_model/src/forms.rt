@@ -4,7 +4,7 @@ ghost use Rattle.std.specs.Prelude.{◌≡◌};
 ghost use Rattle.heap_model.specs.Forms as spec;
 ghost use Rattle.heap_model.specs.Forms.{fits_call, suits_call};
 
-use crate::access::{extended, low_bytes};
+use crate::access::{low_bytes, sign_extension};
 use crate::calls::{AccessKind, Call, Reply, ReportKind, Value};
 use crate::regions::{class_of, region_of};
 use crate::words::{address_of, version_of};
@@ -70,7 +70,7 @@ fn can_give(kind: AccessKind, bits: u64) -> bool
 {
     match kind {
         AccessKind::Ptr => bits == 0,
-        _ => extended(kind, low_bytes(kind, bits)) == bits,
+        _ => sign_extension(kind, low_bytes(kind, bits)) == bits,
     }
 }
 
@@ -85,7 +85,7 @@ fn gives_value(kind: AccessKind, value: Value) -> bool
     }
 }
 
-/// Whether a report is on the place of an access.
+/// Whether a report comes before an access is made.
 fn is_access_report(report: ReportKind) -> bool
     ensures { result ≡ spec.is_access_report report }
 {

@@ -1,5 +1,6 @@
 //! The laws of slots, of words, and of legal histories, whatever bounds are preferred.
 
+ghost use Rattle.heap_model.specs.Checks.{ChecksLaw};
 ghost use Rattle.heap_model.specs.Legal.{ApartLaw, RegionsLaw};
 ghost use Rattle.heap_model.specs.Order.{MergeLaw};
 ghost use Rattle.heap_model.specs.Performed.{AccessesLaw, FoundLaw};
@@ -38,4 +39,10 @@ pub fn law_accesses_inside()
 /// Each check of a legal history that finds bounds finds the preferred ones.
 pub fn law_found_preferred()
     ensures { FoundLaw }
+{}
+
+/// Each check of a legal history has one of four answers, by its cause: the word is null, it names no live object, nothing there matches
+/// the type, or the preferred bounds are found.
+pub fn law_checks()
+    ensures { ChecksLaw }
 {}

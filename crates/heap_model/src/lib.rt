@@ -10,16 +10,16 @@ mod regions;
 mod sent;
 mod words;
 
-pub use access::{extended, low_bytes, width_of};
+pub use access::{low_bytes, sign_extension, width_of};
 pub use calls::{AccessKind, Call, Entry, Reach, Reply, ReportKind, Value};
 pub use forms::{fits, region_for, suits};
 pub use history::History;
 pub use laws::{
-    law_accesses_inside, law_apart, law_found_preferred, law_merge, law_regions, law_slots,
-    law_words,
+    law_accesses_inside, law_apart, law_checks, law_found_preferred, law_merge, law_regions,
+    law_slots, law_words,
 };
 pub use regions::{
-    HEADER, LARGEST, class_of, region_of, size_of_region, slot_address, slot_base, slot_number,
-    slots_of,
+    HEADER_BYTES, MAX_OBJECT_BYTES, MAX_OBJECTS, REGIONS, class_of, region_of, size_of_region,
+    slot_address, slot_base, slot_number, slots_of,
 };
 pub use words::{address_of, offset_of, pack, version_of};

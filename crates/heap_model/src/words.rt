@@ -2,9 +2,9 @@
 
 ghost use Rattle.std.specs.Prelude.{◌≡◌, ◌<◌, ◌≤◌, ◌^◌};
 ghost use Rattle.heap_model.specs.Regions as spec;
-ghost use Rattle.heap_model.specs.Regions.{slots};
+ghost use Rattle.heap_model.specs.Regions.{IsRegion, slots};
 
-use crate::regions::{HEADER, slot_address};
+use crate::regions::{HEADER_BYTES, slot_address};
 
 /// The bits of an address.
 const ADDRESS_BITS: u32 = 40;
@@ -33,14 +33,14 @@ pub fn version_of(word: u64) -> u32
     (word >> ADDRESS_BITS) as u32
 }
 
-/// How many bytes an address is behind the first byte of the object in a slot of a region from 1 to 27, modulo 2^40.
+/// How many bytes an address is past the first byte of the object in a slot of a region from 1 to 27, modulo 2^40.
 #[tactic(auto, unfolding(crate::specs::Regions::offset_in))]
 pub fn offset_of(region: u32, slot: u32, address: u64) -> u64
-    requires region { (1 ≤ region) × (region ≤ 27) }
+    requires region { IsRegion region }
     requires slot { slot < slots region }
     requires address { address < 2 ^ 40 }
     ensures { result ≡ spec.offset_in (record { region = region; number = slot }) address }
 {
-    let first = slot_address(region, slot) + HEADER;
+    let first = slot_address(region, slot) + HEADER_BYTES;
     (address + (1 << ADDRESS_BITS) - first) % (1 << ADDRESS_BITS)
 }

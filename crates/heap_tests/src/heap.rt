@@ -1,7 +1,8 @@
 //! The heap of a region: calls with their replies, in order.
 
-ghost use Rattle.std.specs.Prelude.{◌≡◌, ◌≤◌, IsTrue};
+ghost use Rattle.std.specs.Prelude.{◌≡◌, IsTrue};
 ghost use Rattle.c_types.specs.Table.{basic_types};
+ghost use Rattle.heap_model.specs.Regions.{IsRegion};
 ghost use Rattle.typed_heap.specs.Takes as takes;
 ghost use Rattle.typed_heap.specs.Takes.{KnowsElements, KnowsTypes};
 
@@ -20,7 +21,7 @@ const INT: TypeNo = 6;
 
 const LONG: TypeNo = 8;
 
-/// The first byte of the first object of region 1, behind its header.
+/// The first byte of the first object of region 1, past its header.
 const FIRST: u64 = 0x1_0000_0010;
 
 /// The words of the first, the second and the third object in that slot.
@@ -157,7 +158,7 @@ fn moves_numbers(call: &Call) -> bool
 
 impl Region {
     fn new(alloc: Global, region: u32) -> Result<Region, AllocError>
-        requires { (1 ≤ region) × (region ≤ 27) }
+        requires { IsRegion region }
     {
         let types = TypeTable::new(alloc)?;
         let heap = RegionHeap::new(alloc, region)?;
@@ -184,7 +185,7 @@ impl Region {
         Ok(Some(self.heap.step(&self.types, call)?))
     }
 
-    /// The place of the first call whose reply is another, if there is one.
+    /// The index of the first call whose reply is another, if there is one.
     fn first_other(&mut self, steps: &[(Call, Reply)]) -> Result<Option<usize>, AllocError> {
         for (i, (call, reply)) in steps.iter().enumerate() {
             if self.ask(call)? != Some(*reply) {
@@ -305,7 +306,7 @@ static GIVEN_BACK: [(Call, Reply); 6] = [
 ];
 
 /// How many objects of 15 bytes find a slot in turn, each in the next.
-fn placed(region: &mut Region) -> Result<u64, AllocError> {
+fn count_placements(region: &mut Region) -> Result<u64, AllocError> {
     for slot in 0..70_000u64 {
         if region.ask(&alloc!(INT, 15, false))? != Some(Reply::Placed(A + 32 * slot)) {
             return Ok(slot);
@@ -317,7 +318,7 @@ fn placed(region: &mut Region) -> Result<u64, AllocError> {
 #[test]
 fn a_region_is_full_with_all_its_slots(rt: HostRuntime) -> Result<(), Fail> {
     let mut region = Region::new(rt.alloc(), 1)?;
-    assert_eq!(rt; placed(&mut region)?, 65_536);
+    assert_eq!(rt; count_placements(&mut region)?, 65_536);
     assert_eq!(rt; region.heap.live(), 65_536);
     // the slot that was given back last is the next
     assert_eq!(rt; region.first_other(&GIVEN_BACK)?, None);

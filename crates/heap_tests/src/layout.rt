@@ -88,7 +88,7 @@ fn bounds_are_the_preferred_ones(rt: HostRuntime) -> Result<(), Fail> {
         (CHAR, 8, 3, INT, Some((0, 8))),
         (INT, 9, 9, CHAR, Some((0, 9))),
         (CHAR, 8, 5, UNSIGNED_CHAR, Some((0, 8))),
-        // bytes behind the last value
+        // bytes after the last value
         (INT, 11, 8, INT, Some((0, 8))),
         // an object of no bytes
         (INT, 0, 0, INT, Some((0, 0))),

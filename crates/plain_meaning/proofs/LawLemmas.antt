@@ -11,8 +11,8 @@ use Rattle.plain_meaning.specs.declared.scalar.CheckedPointer.{CheckedPointer}
 use Rattle.plain_meaning.specs.declared.tree.Function.{Function}
 use Rattle.plain_meaning.specs.declared.tree.Program.{Program}
 use Rattle.plain_meaning.specs.Tree.{Return, Stop, Lost, Print, Turn, Point}
-use Rattle.plain_meaning.specs.Points.{Checked, Next, Go, Halt, Answer, Now, Ask, Kept as Nothing, checked, checked_told}
-use Rattle.plain_meaning.specs.Acts.{Acts, Over, Unknown, Says, Took, Asks, goes, resolve, Ends, Progress, said, took, asked, feed, IsSeen, Extends}
+use Rattle.plain_meaning.specs.Points.{Checked, Next, Go, Halt, Answer, Now, Ask, CheckedNote as Nothing, checked_point, checked_next}
+use Rattle.plain_meaning.specs.Acts.{Acts, Over, Unknown, Says, Takes, Asks, goes, resolve, End, Ends, Waits, MayBeginWith, Progress, add_text, add_turn, add_call, feed, IsSeen, Extends}
 use Rattle.plain_meaning.specs.Meaning.{body_of, call}
 use Rattle.plain_meaning.specs.Run.{checked_acts, worker}
 use Rattle.plain_meaning.proofs.Relations.{Events, Kept, body_alike}
@@ -41,16 +41,16 @@ resolve_same : (answer : Answer CheckedPointer Nothing Call) (tells : Reply → 
     (replies : List Reply) → feed replies (resolve Checked answer tells k) ≡ feed replies (resolve Checked answer tells h)
 resolve_same (Now onward) tells k h same replies = goes_same onward k h same replies
 resolve_same (Ask c) tells k h same [] = refl
-resolve_same (Ask c) tells k h same (reply ∷ replies) = ap (asked c) (goes_same (tells reply) k h same replies)
+resolve_same (Ask c) tells k h same (reply ∷ replies) = ap (add_call c) (goes_same (tells reply) k h same replies)
 
 same_kept : Kept CheckedPointer SameFed
 same_kept = record {
   returned = λ left replies. refl;
-  printed = λ left bytes t u same replies. ap (said bytes) (same replies);
+  printed = λ left bytes t u same replies. ap (add_text bytes) (same replies);
   spent = λ line t u replies. refl;
-  turned = λ left line t u same replies. ap took (same replies);
-  pointed = λ left line place ok v w f g same replies.
-      resolve_same (checked tt line place v w) (checked_told tt line place v w) _ _ (λ x note more. same x more) replies;
+  turned = λ left line t u same replies. ap add_turn (same replies);
+  pointed = λ left line action ok v w f g same replies.
+      resolve_same (checked_point tt line action v w) (checked_next tt line action v w) _ _ (λ x note more. same x more) replies;
 }
 
 same_bodies : (found : Option Function) (left n : ℕ) → left ≤ n → (replies : List Reply) →
@@ -64,8 +64,8 @@ turns_looked_at program setting n replies le = same_bodies (slice_get program.fu
 
 -- ---- endings
 
-abbrev Seen : ℕ → CheckedEvents → CheckedEvents → Type 0
-Seen left t u = (replies : List Reply) → IsSeen (feed replies (checked_acts left t)).end
+abbrev StandsSeen : ℕ → CheckedEvents → CheckedEvents → Type 0
+StandsSeen left t u = (replies : List Reply) → IsSeen (feed replies (checked_acts left t)).end
 
 abbrev SeenOnwards : Onwards → Type 0
 SeenOnwards k = (v : Scalar CheckedPointer) (note : Nothing) (replies : List Reply) → IsSeen (feed replies (k v note)).end
@@ -81,21 +81,21 @@ resolve_seen (Now onward) tells k seen replies = goes_seen onward k seen replies
 resolve_seen (Ask c) tells k seen [] = tt
 resolve_seen (Ask c) tells k seen (reply ∷ replies) = goes_seen (tells reply) k seen replies
 
-seen_kept : Kept CheckedPointer Seen
+seen_kept : Kept CheckedPointer StandsSeen
 seen_kept = record {
   returned = λ left replies. tt;
   printed = λ left bytes t u seen replies. seen replies;
   spent = λ line t u replies. tt;
   turned = λ left line t u seen replies. seen replies;
-  pointed = λ left line place ok v w f g seen replies.
-      resolve_seen (checked tt line place v w) (checked_told tt line place v w) _ (λ x note more. seen x more) replies;
+  pointed = λ left line action ok v w f g seen replies.
+      resolve_seen (checked_point tt line action v w) (checked_next tt line action v w) _ (λ x note more. seen x more) replies;
 }
 
 seen_body : (found : Option Function) (f : Function) (left : ℕ) → found ≡ Some f → (replies : List Reply) →
     IsSeen (feed replies (checked_acts left (body_of left found))).end
 seen_body found f left is replies =
     subst (λ o. IsSeen (feed replies (checked_acts left (body_of left o))).end) (sym is)
-    (body_alike Seen seen_kept left left left (omega arith) (omega arith) f replies)
+    (body_alike StandsSeen seen_kept left left left (omega arith) (omega arith) f replies)
 
 pub is_seen : (program : Program) (setting : Setting) (replies : List Reply) → setting.entry < length program.functions →
     IsSeen (worker program setting replies).end
@@ -134,8 +134,8 @@ spends_kept = record {
   printed = λ left bytes t u all replies. all replies;
   spent = λ line t u replies l is. refl;
   turned = λ left line t u all replies l is. ap suc (all replies l is);
-  pointed = λ left line place ok v w f g all replies.
-      resolve_spent left (checked tt line place v w) (checked_told tt line place v w) (checked_unspent line place v w) (told_unspent line place v w) _
+  pointed = λ left line action ok v w f g all replies.
+      resolve_spent left (checked_point tt line action v w) (checked_next tt line action v w) (checked_unspent line action v w) (told_unspent line action v w) _
       (λ x note more. all x more) replies;
 }
 
@@ -168,17 +168,25 @@ turns_of left Lost replies = omega arith
 turns_of left (Print bytes t) replies = turns_of left t replies
 turns_of zero (Turn line t) replies = omega arith
 turns_of (suc left) (Turn line t) replies = omega (arith, turns_of left t replies)
-turns_of left (Point line place v w f) replies =
-    resolve_within left (checked tt line place v w) (checked_told tt line place v w) _ (λ x note more. turns_of left (f x) more) replies
+turns_of left (Point line action v w f) replies =
+    resolve_within left (checked_point tt line action v w) (checked_next tt line action v w) _ (λ x note more. turns_of left (f x) more) replies
 
 pub turns_within : (program : Program) (setting : Setting) (replies : List Reply) → (worker program setting replies).turns ≤ setting.turns
 turns_within program setting replies = turns_of setting.turns (call setting.turns program setting.entry) replies
 
 -- ---- more replies
 
+abbrev waits : {C : Type 0} → C → End C
+waits c = Waits c
+
+-- what it waits for is what it asks next
+pending_first : {C A : Type 0} (c : C) (f : A → Acts C A) (more : List A) (call : C) → waits c ≡ waits call → MayBeginWith call (feed more (Asks c f)).calls
+pending_first c f [] call is = tt
+pending_first c f (reply ∷ replies) call is = cc
+
 pub extends : {C A : Type 0} (worker : Acts C A) (replies more : List A) → Extends (feed replies worker) (feed (replies ++ more) worker)
-extends (Over ending) replies more = record { more_calls = []; calls = refl; more_text = []; text = refl; turns = omega arith; ended = λ e is. refl }
-extends Unknown replies more = record { more_calls = []; calls = refl; more_text = []; text = refl; turns = omega arith; ended = λ e is. refl }
+extends (Over ending) replies more = record { more_calls = []; calls = refl; more_text = []; text = refl; turns = omega arith; ended = λ e is. refl; pending = λ c is. tt }
+extends Unknown replies more = record { more_calls = []; calls = refl; more_text = []; text = refl; turns = omega arith; ended = λ e is. refl; pending = λ c is. tt }
 extends (Says bytes a) replies more =
     let further = extends a replies more in
     record {
@@ -187,9 +195,10 @@ extends (Says bytes a) replies more =
       more_text = further.more_text;
       text = ap (λ t. bytes ++ t) further.text ∙ sym (append_assoc bytes (feed replies a).text further.more_text);
       turns = further.turns;
-      ended = λ e is. ap (said bytes) (further.ended e is);
+      ended = λ e is. ap (add_text bytes) (further.ended e is);
+      pending = further.pending;
     }
-extends (Took a) replies more =
+extends (Takes a) replies more =
     let further = extends a replies more in
     record {
       more_calls = further.more_calls;
@@ -197,7 +206,8 @@ extends (Took a) replies more =
       more_text = further.more_text;
       text = further.text;
       turns = omega (arith, further.turns);
-      ended = λ e is. ap took (further.ended e is);
+      ended = λ e is. ap add_turn (further.ended e is);
+      pending = further.pending;
     }
 extends (Asks c f) [] more = record {
   more_calls = (feed more (Asks c f)).calls;
@@ -206,6 +216,7 @@ extends (Asks c f) [] more = record {
   text = refl;
   turns = omega arith;
   ended = λ e is. cc;
+  pending = pending_first c f more;
 }
 extends (Asks c f) (reply ∷ replies) more =
     let further = extends (f reply) replies more in
@@ -215,5 +226,6 @@ extends (Asks c f) (reply ∷ replies) more =
       more_text = further.more_text;
       text = further.text;
       turns = further.turns;
-      ended = λ e is. ap (asked c) (further.ended e is);
+      ended = λ e is. ap (add_call c) (further.ended e is);
+      pending = further.pending;
     }

@@ -4,3 +4,4 @@ pub mod Endings
 pub mod LawLemmas
 pub mod Wants
 pub mod NamesLemmas
+pub mod Reports

@@ -3,7 +3,7 @@ use Rattle.std.proofs.Common.{◌≡◌, ℕ, zero, suc, ◌≤◌, Bool, true, 
 use Rattle.std.specs.Prelude.{slice_index_or, nat_le}
 use Rattle.plain_meaning.specs.declared.tree.Target.{Target}
 use Rattle.plain_meaning.specs.declared.tree.Target.TheVariants.{Int, Char}
-use Rattle.plain_meaning.specs.declared.tree.Pointer.{Pointer as Named}
+use Rattle.plain_meaning.specs.declared.tree.Pointer.{Pointer as PointerVariable}
 use Rattle.plain_meaning.specs.declared.scalar.Scalar.{Scalar}
 use Rattle.plain_meaning.specs.declared.scalar.Scalar.TheVariants.{Number, Pointer}
 use Rattle.plain_meaning.specs.declared.tree.Expression.{Expression, ind-Expression, map-Expression}
@@ -15,10 +15,11 @@ use Rattle.plain_meaning.specs.declared.tree.Statement.TheOpen as layers
 use Rattle.plain_meaning.specs.declared.tree.Statement.TheVariants as s
 use Rattle.plain_meaning.specs.declared.tree.Statement.TheViews.{roll-Statement}
 use Rattle.plain_meaning.specs.declared.tree.Function.{Function}
-use Rattle.plain_meaning.specs.Tree.{Place, Null, IsNull, Allocate, Free, Load, Store, Pass, Convert, Move, Tree, Return, Print, Turn, Point}
+use Rattle.plain_meaning.specs.Tree.{Action, Null, IsNull, Allocate, Free, Load, Store, Pass, Convert, Move, Tree, Return, Print, Turn, Point}
 use Rattle.plain_meaning.specs.Points.{number_of}
-use Rattle.plain_meaning.specs.Values.{Variables, zero_of, is_true, type_of, size_of, kind_of, largest}
-use Rattle.plain_meaning.specs.Meaning.{Gives, Does, pointer_in, pointer, heap_call, allocated, cast, freed, element, expression, in_order, repeated, number_line, statement, body_of}
+use Rattle.heap_model.specs.Regions.{max_object_bytes}
+use Rattle.plain_meaning.specs.Values.{Variables, zero_of, is_true, type_of, size_of, kind_of}
+use Rattle.plain_meaning.specs.Meaning.{Gives, Does, pointer_in, pointer, heap_call, allocation, cast, free_variable, element, expression, in_order, repeat, number_line, statement, body_of}
 use Rattle.plain_meaning.proofs.Equations as equation
 
 abbrev pub Events : Type 0 → Type 0
@@ -27,8 +28,8 @@ Events P = Tree P (Unit {0})
 abbrev pub Relation : Type 0 → Type 1
 Relation P = ℕ → Events P → Events P → Type 0
 
--- A place of these programs: a check is for one of the nine types that each table has.
-abbrev pub IsOfForm : Place → Type 0
+-- An action of these programs: a check is for one of the nine types that each table has.
+abbrev pub IsOfForm : Action → Type 0
 IsOfForm (Convert want) = want ≤ 9
 IsOfForm _ = Unit {0}
 
@@ -42,8 +43,8 @@ pub record Kept (P : Type 0) (Q : Relation P) : Type 0 where
   pub printed : (left : ℕ) (bytes : List ℕ) (t u : Events P) → Q left t u → Q left (Print bytes t) (Print bytes u)
   pub spent : (line : ℕ) (t u : Events P) → Q zero (Turn line t) (Turn line u)
   pub turned : (left line : ℕ) (t u : Events P) → Q left t u → Q (suc left) (Turn line t) (Turn line u)
-  pub pointed : (left line : ℕ) (place : Place) → IsOfForm place → (v w : Scalar P) (f g : Scalar P → Events P) → ((x : Scalar P) → Q left (f x) (g x)) →
-      Q left (Point line place v w f) (Point line place v w g)
+  pub pointed : (left line : ℕ) (action : Action) → IsOfForm action → (v w : Scalar P) (f g : Scalar P → Events P) → ((x : Scalar P) → Q left (f x) (g x)) →
+      Q left (Point line action v w f) (Point line action v w g)
 
 module _ {P : Type 0} (Q : Relation P) where
   -- what follows a value is related, with as many turns or fewer
@@ -73,11 +74,11 @@ module _ {P : Type 0} (Q : Relation P) (kept : Kept P Q) where
   turn_alike zero line t u a = kept.spent line t u
   turn_alike (suc j) line t u a = kept.turned j line t u (a j (omega arith))
 
-  point_alike : (line : ℕ) (place : Place) → IsOfForm place → (v w : Scalar P) → Alike Q (Point line place v w) (Point line place v w)
-  point_alike line place ok v w j k h a = kept.pointed j line place ok v w k h (λ x. a j (omega arith) x)
+  point_alike : (line : ℕ) (action : Action) → IsOfForm action → (v w : Scalar P) → Alike Q (Point line action v w) (Point line action v w)
+  point_alike line action ok v w j k h a = kept.pointed j line action ok v w k h (λ x. a j (omega arith) x)
 
-  call_alike : (line : ℕ) (place : Place) → IsOfForm place → (v w : Scalar P) → Alike Q (heap_call line place v w) (heap_call line place v w)
-  call_alike line place ok v w j k h a = turn_alike j line _ _ (λ i le. point_alike line place ok v w i k h (λ i' le'. a i' (omega arith)))
+  call_alike : (line : ℕ) (action : Action) → IsOfForm action → (v w : Scalar P) → Alike Q (heap_call line action v w) (heap_call line action v w)
+  call_alike line action ok v w j k h a = turn_alike j line _ _ (λ i le. point_alike line action ok v w i k h (λ i' le'. a i' (omega arith)))
 
   pointer_in_alike : (line : ℕ) (x : Scalar P) → Alike Q (pointer_in line x) (pointer_in line x)
   pointer_in_alike line (Number n) j k h a = point_alike line Null tt zero_of zero_of j k h a
@@ -86,17 +87,17 @@ module _ {P : Type 0} (Q : Relation P) (kept : Kept P Q) where
   pointer_alike : (line : ℕ) (variables : Variables P) (x : ℕ) → Alike Q (pointer line variables x) (pointer line variables x)
   pointer_alike line variables x = pointer_in_alike line (slice_index_or variables x zero_of)
 
-  allocated_alike : (line : ℕ) (target : Target) (size : ℕ) → Alike Q (allocated line target size) (allocated line target size)
+  allocated_alike : (line : ℕ) (target : Target) (size : ℕ) → Alike Q (allocation line target size) (allocation line target size)
   allocated_alike line target size j k h a =
-      cond_alike Q j (nat_le size largest) _ _ _ _ (call_alike line (Allocate (type_of target)) tt _ _ j k h a) (point_alike line Null tt zero_of zero_of j k h a)
+      cond_alike Q j (nat_le size max_object_bytes) _ _ _ _ (call_alike line (Allocate (type_of target)) tt _ _ j k h a) (point_alike line Null tt zero_of zero_of j k h a)
 
-  cast_alike : (line : ℕ) (target : Target) (source : Named) (variables : Variables P) → Alike Q (cast line target source variables) (cast line target source variables)
+  cast_alike : (line : ℕ) (target : Target) (source : PointerVariable) (variables : Variables P) → Alike Q (cast line target source variables) (cast line target source variables)
   cast_alike line target source variables j k h a =
       pointer_alike line variables source.variable j _ _ (λ i le p.
       turn_alike i line _ _ (λ i' le'. point_alike line _ (converts target) p zero_of i' k h (λ i'' le''. a i'' (omega arith))))
 
-  freed_alike : (line : ℕ) (source : Named) (variables : Variables P) (j : ℕ) (t u : Events P) → ((i : ℕ) → i ≤ j → Q i t u) →
-      Q j (freed line source variables t) (freed line source variables u)
+  freed_alike : (line : ℕ) (source : PointerVariable) (variables : Variables P) (j : ℕ) (t u : Events P) → ((i : ℕ) → i ≤ j → Q i t u) →
+      Q j (free_variable line source variables t) (free_variable line source variables u)
   freed_alike line source variables j t u a =
       pointer_alike line variables source.variable j _ _ (λ i le p.
       point_alike line Pass tt p zero_of i _ _ (λ i' le' passed.
@@ -109,7 +110,7 @@ module _ {P : Type 0} (Q : Relation P) (kept : Kept P Q) where
   abbrev pub GivesAlike : Gives P (Unit {0}) → Type 0
   GivesAlike gives = (variables : Variables P) → Alike Q (gives variables) (gives variables)
 
-  element_alike : (line : ℕ) (p : Named) (index : Gives P (Unit {0})) → GivesAlike index → (variables : Variables P) →
+  element_alike : (line : ℕ) (p : PointerVariable) (index : Gives P (Unit {0})) → GivesAlike index → (variables : Variables P) →
       Alike Q (element line p index variables) (element line p index variables)
   element_alike line p index alike variables j k h a =
       pointer_alike line variables p.variable j _ _ (λ i le base.
@@ -128,8 +129,8 @@ module _ {P : Type 0} (Q : Relation P) (kept : Kept P Q) where
       (left.1 variables j _ _ (λ i le n. right.1 variables i _ _ (λ i' le' m. a i' (omega arith) _))))
   valued_layer line (layer.Element p index) = subst (Valued line) (sym (e.rolls-Element p index.0)) (λ variables j k h a.
       both Q j (equation.expression_element line p index.0 variables k) (equation.expression_element line p index.0 variables h)
-      (element_alike line p (expression line index.0) index.1 variables j _ _ (λ i le place.
-      call_alike line (Load (kind_of p.target)) tt place zero_of i _ _ (λ i' le' v. a i' (omega arith) _))))
+      (element_alike line p (expression line index.0) index.1 variables j _ _ (λ i le lvalue.
+      call_alike line (Load (kind_of p.target)) tt lvalue zero_of i _ _ (λ i' le' v. a i' (omega arith) _))))
 
   expression_alike : (line : ℕ) (x : Expression) → Valued line x
   expression_alike line = ind-Expression (Valued line) (λ x y is. subst (λ z. Valued line (roll-Expression z)) is (valued_layer line y))
@@ -138,7 +139,7 @@ module _ {P : Type 0} (Q : Relation P) (kept : Kept P Q) where
 
   repeated_alike : (m n left : ℕ) → left ≤ m → left ≤ n → (line : ℕ) (test : Gives P (Unit {0})) (d c : Does P (Unit {0})) →
       GivesAlike test → DoesAlike Q left d c → (j : ℕ) → j ≤ left → (variables : Variables P) (k h : Variables P → Events P) → NextAlike Q j k h →
-      Q j (repeated m line test d variables k) (repeated n line test c variables h)
+      Q j (repeat m line test d variables k) (repeat n line test c variables h)
   repeated_alike zero zero left lm ln line test d c alike body zero le variables k h a = kept.spent line _ _
   repeated_alike zero (suc n) left lm ln line test d c alike body zero le variables k h a = kept.spent line _ _
   repeated_alike (suc m) zero left lm ln line test d c alike body zero le variables k h a = kept.spent line _ _
@@ -185,8 +186,8 @@ module _ {P : Type 0} (Q : Relation P) (kept : Kept P Q) where
       (cast_alike line p.target source variables j _ _ (λ i li v. a i li _)))
   alike_layer (layers.ElementAssignment line p index value) = subst StatementAlike (sym (s.rolls-ElementAssignment line p index value)) (λ m n left lm ln j le variables k h a.
       both Q j (equation.statement_element_assignment m line p index value variables k) (equation.statement_element_assignment n line p index value variables h)
-      (element_alike line p (expression line index) (expression_alike line index) variables j _ _ (λ i li place.
-      expression_alike line value variables i _ _ (λ i' li' v. call_alike line (Store (kind_of p.target)) tt place _ i' _ _ (λ i'' li'' done. a i'' (omega arith) _)))))
+      (element_alike line p (expression line index) (expression_alike line index) variables j _ _ (λ i li lvalue.
+      expression_alike line value variables i _ _ (λ i' li' v. call_alike line (Store (kind_of p.target)) tt lvalue _ i' _ _ (λ i'' li'' done. a i'' (omega arith) _)))))
   alike_layer (layers.Free line p) = subst StatementAlike (sym (s.rolls-Free line p)) (λ m n left lm ln j le variables k h a.
       both Q j (equation.statement_free m line p variables k) (equation.statement_free n line p variables h)
       (freed_alike line p variables j _ _ (λ i li. a i li _)))

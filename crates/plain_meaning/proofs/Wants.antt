@@ -15,8 +15,8 @@ use Rattle.plain_meaning.specs.declared.scalar.Scalar.{Scalar}
 use Rattle.plain_meaning.specs.declared.scalar.CheckedPointer.{CheckedPointer}
 use Rattle.plain_meaning.specs.declared.tree.Function.{Function}
 use Rattle.plain_meaning.specs.declared.tree.Program.{Program}
-use Rattle.plain_meaning.specs.Tree.{Place, Null, IsNull, Allocate, Free, Load, Store, Pass, Convert, Move}
-use Rattle.plain_meaning.specs.Points.{Checked, Next, Go, Halt, Answer, Now, Ask, Kept as Nothing, Asking, pointer_of, is_null, report_on, want_at, reach_at, checked, checked_told}
+use Rattle.plain_meaning.specs.Tree.{Action, Null, IsNull, Allocate, Free, Load, Store, Pass, Convert, Move}
+use Rattle.plain_meaning.specs.Points.{Checked, Next, Go, Halt, Answer, Now, Ask, CheckedNote as Nothing, Asking, pointer_of, is_null, report_on, want_at, reach_at, checked_point, checked_next}
 use Rattle.plain_meaning.specs.Acts.{Acts, goes, resolve, Ends, Progress, feed}
 use Rattle.plain_meaning.specs.Meaning.{body_of}
 use Rattle.plain_meaning.specs.Run.{checked_acts, worker}
@@ -38,7 +38,7 @@ either : (b : Bool) (x y : Asking) → AnswerIsKnown x → AnswerIsKnown y → A
 either true x y p q = p
 either false x y p q = q
 
-checked_known : (line : ℕ) (place : Place) (v w : Scalar CheckedPointer) → AnswerIsKnown (checked tt line place v w)
+checked_known : (line : ℕ) (action : Action) (v w : Scalar CheckedPointer) → AnswerIsKnown (checked_point tt line action v w)
 checked_known line Null v w = tt
 checked_known line IsNull v w = tt
 checked_known line (Allocate elem) v w = tt
@@ -63,7 +63,7 @@ report_known kind.NotPointer line word reach want le = omega arith
 report_known kind.Escape line word reach want le = omega arith
 report_known kind.Compare line word reach want le = omega arith
 
-want_known : (place : Place) → IsOfForm place → want_at place ≤ 9
+want_known : (action : Action) → IsOfForm action → want_at action ≤ 9
 want_known Null ok = omega arith
 want_known IsNull ok = omega arith
 want_known (Allocate elem) ok = omega arith
@@ -74,14 +74,14 @@ want_known Pass ok = omega arith
 want_known (Convert want) ok = ok
 want_known (Move size) ok = omega arith
 
-told_known : (line : ℕ) (place : Place) → IsOfForm place → (v w : Scalar CheckedPointer) (r : Reply) → IsKnown (checked_told tt line place v w r)
-told_known line place ok v w (reply.Placed word) = tt
-told_known line place ok v w reply.NoSlot = tt
-told_known line place ok v w reply.Done = tt
-told_known line place ok v w (reply.Found reach) = tt
-told_known line place ok v w (reply.Value value) = tt
-told_known line place ok v w (reply.Report k) =
-    report_known k line (pointer_of v).word (reach_at place (pointer_of v)) (want_at place) (want_known place ok)
+told_known : (line : ℕ) (action : Action) → IsOfForm action → (v w : Scalar CheckedPointer) (r : Reply) → IsKnown (checked_next tt line action v w r)
+told_known line action ok v w (reply.Placed word) = tt
+told_known line action ok v w reply.NoSlot = tt
+told_known line action ok v w reply.Done = tt
+told_known line action ok v w (reply.Found reach) = tt
+told_known line action ok v w (reply.Value value) = tt
+told_known line action ok v w (reply.Report k) =
+    report_known k line (pointer_of v).word (reach_at action (pointer_of v)) (want_at action) (want_known action ok)
 
 -- ---- workers
 
@@ -120,8 +120,8 @@ wants_kept = record {
   printed = λ left bytes t u all replies. all replies;
   spent = λ line t u replies report is. cc;
   turned = λ left line t u all replies. all replies;
-  pointed = λ left line place ok v w f g all replies.
-      resolve_wants (checked tt line place v w) (checked_told tt line place v w) (checked_known line place v w) (told_known line place ok v w) _
+  pointed = λ left line action ok v w f g all replies.
+      resolve_wants (checked_point tt line action v w) (checked_next tt line action v w) (checked_known line action v w) (told_known line action ok v w) _
       (λ x note more. all x more) replies;
 }
 

@@ -5,3 +5,4 @@ pub mod Values
 pub mod Meaning
 pub mod Run
 pub mod Names
+pub mod Reported

@@ -4,7 +4,7 @@ use Rattle.std.specs.Prelude.{ℕ, zero, suc, ℤ, pos, List, [], ◌∷◌, ◌
 use Rattle.std.specs.Int.{w32}
 use Rattle.std.specs.Fmt.{signed_decimal}
 use Rattle.plain_meaning.specs.declared.tree.Target.{Target}
-use Rattle.plain_meaning.specs.declared.tree.Pointer.{Pointer as Named}
+use Rattle.plain_meaning.specs.declared.tree.Pointer.{Pointer as PointerVariable}
 use Rattle.plain_meaning.specs.declared.scalar.Scalar.{Scalar}
 use Rattle.plain_meaning.specs.declared.scalar.Scalar.TheVariants.{Number, Pointer}
 use Rattle.plain_meaning.specs.declared.tree.Expression.{Expression, fold-Expression}
@@ -15,9 +15,10 @@ use Rattle.plain_meaning.specs.declared.tree.Statement.TheOpen.{Statement-F}
 use Rattle.plain_meaning.specs.declared.tree.Statement.TheOpen as s
 use Rattle.plain_meaning.specs.declared.tree.Function.{Function}
 use Rattle.plain_meaning.specs.declared.tree.Program.{Program}
-use Rattle.plain_meaning.specs.Tree.{Place, Null, IsNull, Allocate, Free, Load, Store, Pass, Convert, Move, Tree, Return, Lost, Print, Turn, Point}
+use Rattle.plain_meaning.specs.Tree.{Action, Null, IsNull, Allocate, Free, Load, Store, Pass, Convert, Move, Tree, Return, Lost, Print, Turn, Point}
 use Rattle.plain_meaning.specs.Points.{number_of}
-use Rattle.plain_meaning.specs.Values.{Variables, zero_of, value_of, is_true, operate, converted, type_of, size_of, width_of, kind_of, largest}
+use Rattle.heap_model.specs.Regions.{max_object_bytes}
+use Rattle.plain_meaning.specs.Values.{Variables, zero_of, value_of, is_true, operate, conversion, type_of, size_of, width_of, kind_of}
 
 -- ---- pointers
 
@@ -30,28 +31,28 @@ abbrev pub pointer : {P R : Type 0} → ℕ → Variables P → ℕ → (Scalar 
 pointer line variables x next = pointer_in line (slice_index_or variables x zero_of) next
 
 -- A heap call takes a turn, directly before it.
-abbrev pub heap_call : {P R : Type 0} → ℕ → Place → Scalar P → Scalar P → (Scalar P → Tree P R) → Tree P R
-heap_call line place u w next = Turn line (Point line place u w next)
+abbrev pub heap_call : {P R : Type 0} → ℕ → Action → Scalar P → Scalar P → (Scalar P → Tree P R) → Tree P R
+heap_call line action u w next = Turn line (Point line action u w next)
 
 -- `malloc(size)` gives null without a call where no region has room for the size.
-abbrev pub allocated : {P R : Type 0} → ℕ → Target → ℕ → (Scalar P → Tree P R) → Tree P R
-allocated line target size next =
-    cond (nat_le size largest) (heap_call line (Allocate (type_of target)) (Number (pos size)) zero_of next) (Point line Null zero_of zero_of next)
+abbrev pub allocation : {P R : Type 0} → ℕ → Target → ℕ → (Scalar P → Tree P R) → Tree P R
+allocation line target size next =
+    cond (nat_le size max_object_bytes) (heap_call line (Allocate (type_of target)) (Number (pos size)) zero_of next) (Point line Null zero_of zero_of next)
 
 -- A conversion `(T *)p` takes a turn, after its operand.
-abbrev pub cast : {P R : Type 0} → ℕ → Target → Named → Variables P → (Scalar P → Tree P R) → Tree P R
+abbrev pub cast : {P R : Type 0} → ℕ → Target → PointerVariable → Variables P → (Scalar P → Tree P R) → Tree P R
 cast line target source variables next =
     pointer line variables source.variable (λ p. Turn line (Point line (Convert (type_of target)) p zero_of next))
 
 -- `free(p)`: the pointer is passed, and null is left alone.
-abbrev pub released : {P R : Type 0} → ℕ → Scalar P → Tree P R → Tree P R
-released line p next =
+abbrev pub release : {P R : Type 0} → ℕ → Scalar P → Tree P R → Tree P R
+release line p next =
     Point line Pass p zero_of (λ passed.
     Point line IsNull passed zero_of (λ is.
     cond (is_true (number_of is)) next (heap_call line Free passed zero_of (λ done. next))))
 
-abbrev pub freed : {P R : Type 0} → ℕ → Named → Variables P → Tree P R → Tree P R
-freed line source variables next = pointer line variables source.variable (λ p. released line p next)
+abbrev pub free_variable : {P R : Type 0} → ℕ → PointerVariable → Variables P → Tree P R → Tree P R
+free_variable line source variables next = pointer line variables source.variable (λ p. release line p next)
 
 -- ---- expressions
 
@@ -59,8 +60,8 @@ freed line source variables next = pointer line variables source.variable (λ p.
 abbrev pub Gives : Type 0 → Type 0 → Type 0
 Gives P R = Variables P → (ℤ → Tree P R) → Tree P R
 
--- the place of `NAME[index]`: first the pointer, then the index
-abbrev pub element : {P R : Type 0} → ℕ → Named → Gives P R → Variables P → (Scalar P → Tree P R) → Tree P R
+-- the lvalue `NAME[index]`: first the pointer, then the index
+abbrev pub element : {P R : Type 0} → ℕ → PointerVariable → Gives P R → Variables P → (Scalar P → Tree P R) → Tree P R
 element line p index variables next =
     pointer line variables p.variable (λ base. index variables (λ i. Point line (Move (size_of p.target)) base (Number i) next))
 
@@ -70,7 +71,7 @@ expression_step line (e.Number n) variables next = next n
 expression_step line (e.Binary operator left right) variables next =
     left variables (λ a. right variables (λ b. next (operate w32 operator a b)))
 expression_step line (e.Element p index) variables next =
-    element line p index variables (λ place. heap_call line (Load (kind_of p.target)) place zero_of (λ v. next (converted w32 (number_of v))))
+    element line p index variables (λ lvalue. heap_call line (Load (kind_of p.target)) lvalue zero_of (λ v. next (conversion w32 (number_of v))))
 
 -- an expression of a statement on this line
 abbrev pub expression : {P R : Type 0} → ℕ → Expression → Gives P R
@@ -88,36 +89,36 @@ in_order [] variables next = next variables
 in_order (first ∷ rest) variables next = first variables (λ after. in_order rest after next)
 
 -- A loop takes a turn for each of its tests, before the test. At most n + 1 turns are looked at.
-abbrev pub repeated : {P R : Type 0} → ℕ → ℕ → Gives P R → Does P R → Does P R
-repeated zero line test body variables next = Turn line Lost
-repeated (suc n) line test body variables next =
-    Turn line (test variables (λ v. cond (is_true v) (body variables (λ after. repeated n line test body after next)) (next variables)))
+abbrev pub repeat : {P R : Type 0} → ℕ → ℕ → Gives P R → Does P R → Does P R
+repeat zero line test body variables next = Turn line Lost
+repeat (suc n) line test body variables next =
+    Turn line (test variables (λ v. cond (is_true v) (body variables (λ after. repeat n line test body after next)) (next variables)))
 
 -- what `printf("%d\n", v)` prints
 abbrev pub number_line : ℤ → List ℕ
 number_line v = signed_decimal v ++ codes "\n"
 
 -- The variables of a block go out of scope at its end. A new variable is zero or null while its first value is evaluated.
--- Of `p[i] = v` the place comes first, then the value, which is converted to the element's type.
+-- Of `p[i] = v` the lvalue comes first, then the value, which is converted to the element's type.
 abbrev pub statement_step : {P R : Type 0} → ℕ → Statement-F (Does P R) → Does P R
 statement_step n (s.Block all) variables next = in_order all variables (λ after. next (take (length variables) after))
 statement_step n (s.Declaration line value) variables next =
     expression line value (variables ++ zero_of ∷ []) (λ v. next (variables ++ Number v ∷ []))
-statement_step n (s.Allocation line target size) variables next = allocated line target size (λ p. next (variables ++ p ∷ []))
+statement_step n (s.Allocation line target size) variables next = allocation line target size (λ p. next (variables ++ p ∷ []))
 statement_step n (s.PointerDeclaration line target source) variables next =
     Point line Null zero_of zero_of (λ null. cast line target source (variables ++ null ∷ []) (λ p. next (variables ++ p ∷ [])))
 statement_step n (s.Assignment line x value) variables next = expression line value variables (λ v. next (slice_set variables x (Number v)))
 statement_step n (s.PointerAssignment line p source) variables next =
     cast line p.target source variables (λ q. next (slice_set variables p.variable q))
 statement_step n (s.ElementAssignment line p index value) variables next =
-    element line p (expression line index) variables (λ place. expression line value variables (λ v.
-    heap_call line (Store (kind_of p.target)) place (Number (converted (width_of p.target) v)) (λ done. next variables)))
-statement_step n (s.Free line p) variables next = freed line p variables (next variables)
+    element line p (expression line index) variables (λ lvalue. expression line value variables (λ v.
+    heap_call line (Store (kind_of p.target)) lvalue (Number (conversion (width_of p.target) v)) (λ done. next variables)))
+statement_step n (s.Free line p) variables next = free_variable line p variables (next variables)
 statement_step n (s.If line test then) variables next =
     expression line test variables (λ v. cond (is_true v) (then variables next) (next variables))
 statement_step n (s.IfElse line test then otherwise) variables next =
     expression line test variables (λ v. cond (is_true v) (then variables next) (otherwise variables next))
-statement_step n (s.While line test body) variables next = repeated n line (expression line test) body variables next
+statement_step n (s.While line test body) variables next = repeat n line (expression line test) body variables next
 statement_step n (s.Print line value) variables next = expression line value variables (λ v. Print (number_line v) (next variables))
 
 -- a statement, of whose loops n + 1 turns each are looked at

@@ -17,7 +17,7 @@ use Rattle.plain_meaning.specs.declared.record.Ending.TheVariants.{Reported}
 use Rattle.plain_meaning.specs.declared.scalar.Scalar.{Scalar}
 use Rattle.plain_meaning.specs.declared.scalar.Scalar.TheVariants.{Number, Pointer}
 use Rattle.plain_meaning.specs.declared.scalar.CheckedPointer.{CheckedPointer}
-use Rattle.plain_meaning.specs.Tree.{Place, Null, IsNull, Allocate, Free, Load, Store, Pass, Convert, Move}
+use Rattle.plain_meaning.specs.Tree.{Action, Null, IsNull, Allocate, Free, Load, Store, Pass, Convert, Move}
 
 -- How pointers are kept: in mode Checked a pointer is a word with a reach.
 pub data Mode : Type 0 where
@@ -74,18 +74,18 @@ report_on other line word reach want =
     record { kind = other; line = line; first = word; first_reach = reach; second = 0; second_reach = nowhere; want = 0 }
 
 -- An access has its own reach, a check or a free the bounds of the slot.
-abbrev pub reach_at : Place → CheckedPointer → Reach
+abbrev pub reach_at : Action → CheckedPointer → Reach
 reach_at (Load kind) p = p.reach
 reach_at (Store kind) p = p.reach
-reach_at place p = slot_bounds p.word
+reach_at action p = slot_bounds p.word
 
-abbrev pub want_at : Place → ℕ
+abbrev pub want_at : Action → ℕ
 want_at (Convert want) = want
-want_at place = 0
+want_at action = 0
 
--- what the heap reports at a place
-abbrev pub report_at : Place → ReportKind → ℕ → CheckedPointer → Report
-report_at place kind line p = report_on kind line p.word (reach_at place p) (want_at place)
+-- what the heap reports at a point of this action
+abbrev pub report_at : Action → ReportKind → ℕ → CheckedPointer → Report
+report_at action kind line p = report_on kind line p.word (reach_at action p) (want_at action)
 
 -- a pointer that is out of its reach
 abbrev pub escape : ℕ → CheckedPointer → Report
@@ -94,56 +94,56 @@ escape line p = report_on kind.Escape line p.word p.reach 0
 -- ---- mode Checked
 
 -- it keeps nothing beside the values
-abbrev pub Kept : Type 0
-Kept = Unit {0}
+abbrev pub CheckedNote : Type 0
+CheckedNote = Unit {0}
 
 abbrev pub Onward : Type 0
-Onward = Next CheckedPointer Kept
+Onward = Next CheckedPointer CheckedNote
 
 abbrev pub Asking : Type 0
-Asking = Answer CheckedPointer Kept Call
+Asking = Answer CheckedPointer CheckedNote Call
 
 -- a report ends the worker
-abbrev pub reported : Report → Kept → Onward
-reported report note = Halt (Reported report) note
+abbrev pub halt_with : Report → CheckedNote → Onward
+halt_with report note = Halt (Reported report) note
 
 -- what comes where a pointer may leave its owner, and else the report
-abbrev pub unless_escape : ℕ → CheckedPointer → Kept → Asking → Asking
-unless_escape line p note answer = cond (may_escape p.reach p.word) answer (Now (reported (escape line p) note))
+abbrev pub unless_escape : ℕ → CheckedPointer → CheckedNote → Asking → Asking
+unless_escape line p note answer = cond (may_escape p.reach p.word) answer (Now (halt_with (escape line p) note))
 
 -- A pointer is checked for a type, unless it is null.
-abbrev pub checked_for : ℕ → CheckedPointer → Kept → Asking
-checked_for want p note = cond (is_null p) (Now (Go (Pointer p) note)) (Ask (call.Check p.word want))
+abbrev pub check_for : ℕ → CheckedPointer → CheckedNote → Asking
+check_for want p note = cond (is_null p) (Now (Go (Pointer p) note)) (Ask (call.Check p.word want))
 
-abbrev pub stored : ℤ → Value
-stored n = record { bits = cast_unsigned w64 n; pointer = false }
+abbrev pub number_value : ℤ → Value
+number_value n = record { bits = cast_unsigned w64 n; pointer = false }
 
-abbrev pub moved_by : CheckedPointer → ℤ → ℕ → CheckedPointer
-moved_by p count size = record { word = moved p.word count size; reach = p.reach }
+abbrev pub shift : CheckedPointer → ℤ → ℕ → CheckedPointer
+shift p count size = record { word = moved p.word count size; reach = p.reach }
 
-abbrev pub checked : Kept → ℕ → Place → Scalar CheckedPointer → Scalar CheckedPointer → Asking
-checked note line Null u w = Now (Go (Pointer null) note)
-checked note line IsNull u w = Now (Go (Number (bit (is_null (pointer_of u)))) note)
-checked note line (Allocate elem) u w = Ask (call.Alloc elem (natural (number_of u)) false)
-checked note line Free u w = unless_escape line (pointer_of u) note (Ask (call.Free (pointer_of u).word false))
-checked note line (Load kind) u w = Ask (call.Load (pointer_of u).word (pointer_of u).reach kind)
-checked note line (Store kind) u w = Ask (call.Store (pointer_of u).word (pointer_of u).reach kind (stored (number_of w)))
-checked note line Pass u w = unless_escape line (pointer_of u) note (Now (Go (Pointer (pointer_of u)) note))
-checked note line (Convert want) u w = unless_escape line (pointer_of u) note (checked_for want (pointer_of u) note)
-checked note line (Move size) u w = Now (Go (Pointer (moved_by (pointer_of u) (number_of w) size)) note)
+abbrev pub checked_point : CheckedNote → ℕ → Action → Scalar CheckedPointer → Scalar CheckedPointer → Asking
+checked_point note line Null u w = Now (Go (Pointer null) note)
+checked_point note line IsNull u w = Now (Go (Number (bit (is_null (pointer_of u)))) note)
+checked_point note line (Allocate elem) u w = Ask (call.Alloc elem (natural (number_of u)) false)
+checked_point note line Free u w = unless_escape line (pointer_of u) note (Ask (call.Free (pointer_of u).word false))
+checked_point note line (Load kind) u w = Ask (call.Load (pointer_of u).word (pointer_of u).reach kind)
+checked_point note line (Store kind) u w = Ask (call.Store (pointer_of u).word (pointer_of u).reach kind (number_value (number_of w)))
+checked_point note line Pass u w = unless_escape line (pointer_of u) note (Now (Go (Pointer (pointer_of u)) note))
+checked_point note line (Convert want) u w = unless_escape line (pointer_of u) note (check_for want (pointer_of u) note)
+checked_point note line (Move size) u w = Now (Go (Pointer (shift (pointer_of u) (number_of w) size)) note)
 
 -- the pointer to a new object of this size
-abbrev pub placed : ℕ → ℕ → CheckedPointer
-placed word size = record { word = word; reach = record { lo = address_of word; hi = address_of word + size } }
+abbrev pub new_pointer : ℕ → ℕ → CheckedPointer
+new_pointer word size = record { word = word; reach = record { lo = address_of word; hi = address_of word + size } }
 
 -- how a point goes on from its reply. An allocation that finds no room gives null.
-abbrev pub checked_told : Kept → ℕ → Place → Scalar CheckedPointer → Scalar CheckedPointer → Reply → Onward
-checked_told note line place u w (reply.Placed word) = Go (Pointer (placed word (natural (number_of u)))) note
-checked_told note line place u w reply.NoSlot = Go (Pointer null) note
-checked_told note line place u w reply.Done = Go (Number (pos 0)) note
-checked_told note line place u w (reply.Found reach) = Go (Pointer (record { word = (pointer_of u).word; reach = reach })) note
-checked_told note line place u w (reply.Value v) = Go (Number (cast_signed w64 v.bits)) note
-checked_told note line place u w (reply.Report kind) = reported (report_at place kind line (pointer_of u)) note
+abbrev pub checked_next : CheckedNote → ℕ → Action → Scalar CheckedPointer → Scalar CheckedPointer → Reply → Onward
+checked_next note line action u w (reply.Placed word) = Go (Pointer (new_pointer word (natural (number_of u)))) note
+checked_next note line action u w reply.NoSlot = Go (Pointer null) note
+checked_next note line action u w reply.Done = Go (Number (pos 0)) note
+checked_next note line action u w (reply.Found reach) = Go (Pointer (record { word = (pointer_of u).word; reach = reach })) note
+checked_next note line action u w (reply.Value v) = Go (Number (cast_signed w64 v.bits)) note
+checked_next note line action u w (reply.Report kind) = halt_with (report_at action kind line (pointer_of u)) note
 
 -- ---- each mode
 
@@ -151,7 +151,7 @@ abbrev pub PointerIn : Mode → Type 0
 PointerIn Checked = CheckedPointer
 
 abbrev pub Note : Mode → Type 0
-Note Checked = Kept
+Note Checked = CheckedNote
 
 abbrev pub CallIn : Mode → Type 0
 CallIn Checked = Call
@@ -163,12 +163,12 @@ ReplyIn Checked = Reply
 abbrev pub first_note : (m : Mode) → Note m
 first_note Checked = tt
 
-abbrev pub point : (m : Mode) → Note m → ℕ → Place → Scalar (PointerIn m) → Scalar (PointerIn m) → Answer (PointerIn m) (Note m) (CallIn m)
-point Checked note line place u w = checked note line place u w
+abbrev pub point : (m : Mode) → Note m → ℕ → Action → Scalar (PointerIn m) → Scalar (PointerIn m) → Answer (PointerIn m) (Note m) (CallIn m)
+point Checked note line action u w = checked_point note line action u w
 
-abbrev pub told : (m : Mode) → Note m → ℕ → Place → Scalar (PointerIn m) → Scalar (PointerIn m) → ReplyIn m → Next (PointerIn m) (Note m)
-told Checked note line place u w reply = checked_told note line place u w reply
+abbrev pub point_next : (m : Mode) → Note m → ℕ → Action → Scalar (PointerIn m) → Scalar (PointerIn m) → ReplyIn m → Next (PointerIn m) (Note m)
+point_next Checked note line action u w reply = checked_next note line action u w reply
 
 -- the ending of a worker that ends with a note
-abbrev pub ended : (m : Mode) → Note m → Ending → Ending
-ended Checked note ending = ending
+abbrev pub final_ending : (m : Mode) → Note m → Ending → Ending
+final_ending Checked note ending = ending

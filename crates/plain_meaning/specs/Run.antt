@@ -37,7 +37,7 @@ abbrev pub replies_of : List Entry → List Reply
 replies_of = map (λ e. e.reply)
 
 -- Fed the replies of these entries, a worker asks exactly their calls, and has ended so and printed this.
-pub record Worked (worker : Acts Call Reply) (entries : List Entry) (ending : Ending) (text : List ℕ) : Type 0 where
+pub record Works (worker : Acts Call Reply) (entries : List Entry) (ending : Ending) (text : List ℕ) : Type 0 where
   pub calls : (feed (replies_of entries) worker).calls ≡ calls_of entries
   pub ended : (feed (replies_of entries) worker).end ≡ Ends ending
   pub printed : (feed (replies_of entries) worker).text ≡ text
@@ -65,13 +65,13 @@ pub record Run (program : Program) (setting : Setting) (run : Record) : Type 0 w
   pub stamped : IsStamped run.history.entries
   pub parts : InParts 1 run.history.entries
   pub opening_text : List ℕ
-  pub opened : Worked (checked_acts setting.turns (opening program)) parts.opening Finished opening_text
+  pub opened : Works (checked_acts setting.turns (opening program)) parts.opening Finished opening_text
   pub ending : Ending
   pub text : List ℕ
-  pub worked : Worked (worker_acts program setting) (own run.history.entries 1) ending text
+  pub worked : Works (worker_acts program setting) (own run.history.entries 1) ending text
   pub finish_text : List ℕ
   pub finished :
-      Worked (checked_acts (setting.turns - (feed (replies_of parts.opening) (checked_acts setting.turns (opening program))).turns) (finish program))
+      Works (checked_acts (setting.turns - (feed (replies_of parts.opening) (checked_acts setting.turns (opening program))).turns) (finish program))
       parts.finish Finished finish_text
   pub endings : run.endings ≡ Finished ∷ ending ∷ []
   pub texts : run.texts ≡ opening_text ∷ text ∷ finish_text ∷ []

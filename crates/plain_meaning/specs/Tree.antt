@@ -5,26 +5,26 @@ use Rattle.heap_model.specs.declared.calls.AccessKind.{AccessKind}
 use Rattle.plain_meaning.specs.declared.record.Ending.{Ending}
 use Rattle.plain_meaning.specs.declared.scalar.Scalar.{Scalar}
 
--- Where a heap call is made, a pointer is tested or checked, or the outcome rests on how it is kept. A point has two values,
+-- What is done at a point: a heap call, a test or check of a pointer, or what rests on how it is kept. A point has two values,
 -- of which the first is the pointer where nothing else is said.
-pub data Place : Type 0 where
+pub data Action : Type 0 where
   -- the null pointer
-  Null : Place
+  Null : Action
   -- whether the pointer is null: 1 or 0
-  IsNull : Place
+  IsNull : Action
   -- a new object of an element type, whose size in bytes is the first value
-  Allocate : ℕ → Place
+  Allocate : ℕ → Action
   -- the end of an object that is not fixed
-  Free : Place
+  Free : Action
   -- a number is read, or the second value is written
-  Load : AccessKind → Place
-  Store : AccessKind → Place
+  Load : AccessKind → Action
+  Store : AccessKind → Action
   -- the pointer is an argument of a call
-  Pass : Place
+  Pass : Action
   -- the pointer is converted to one to a type
-  Convert : ℕ → Place
+  Convert : ℕ → Action
   -- the pointer is moved by so many values, the second value, of a size
-  Move : ℕ → Place
+  Move : ℕ → Action
 
 pub data Tree (P R : Type 0) : Type 0 where
   -- it returns
@@ -38,4 +38,4 @@ pub data Tree (P R : Type 0) : Type 0 where
   -- it takes a turn, on this line, and goes on
   Turn : ℕ → Tree P R → Tree P R
   -- it comes to a point, on this line, and goes on with a value
-  Point : ℕ → Place → Scalar P → Scalar P → (Scalar P → Tree P R) → Tree P R
+  Point : ℕ → Action → Scalar P → Scalar P → (Scalar P → Tree P R) → Tree P R

@@ -43,8 +43,8 @@ operate w LessEqual a b = truth (int_le a b)
 operate w Equal a b = truth (int_eq a b)
 
 -- a number as one of a signed type of a width, of which the low bits are kept (C11 6.3.1.3)
-abbrev pub converted : Width → ℤ → ℤ
-converted w n = cast_signed w (cast_unsigned w64 n % 2 ^ bits w)
+abbrev pub conversion : Width → ℤ → ℤ
+conversion w n = cast_signed w (cast_unsigned w64 n % 2 ^ bits w)
 
 -- ---- the types that are pointed to. A plain char is signed.
 
@@ -63,7 +63,3 @@ width_of Char = w8
 abbrev pub kind_of : Target → AccessKind
 kind_of Int = I32
 kind_of Char = I8
-
--- the largest object that a region has room for
-abbrev pub largest : ℕ
-largest = 1048559

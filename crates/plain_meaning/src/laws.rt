@@ -9,6 +9,7 @@ ghost use Rattle.plain_meaning.specs.declared.record.Setting.{Setting};
 ghost use Rattle.plain_meaning.specs.declared.tree.Program.{Program};
 ghost use Rattle.plain_meaning.specs.Acts.{Acts, Ends, IsSeen, Extends, feed};
 ghost use Rattle.plain_meaning.specs.Meaning.{call};
+ghost use Rattle.plain_meaning.specs.Reported.{ReportedLaw};
 ghost use Rattle.plain_meaning.specs.Run.{checked_acts, worker};
 
 /// Where at least as many turns of each loop are looked at as the limit has, how many it is changes nothing.
@@ -17,7 +18,7 @@ pub fn law_turns_looked_at()
 {}
 
 /// Where the function is there, the worker waits for a reply or ends, whatever it was told.
-pub fn law_ended()
+pub fn law_nothing_lost()
     ensures { (program : Program) (setting : Setting) (replies : List Reply) → setting.entry < length program.functions → IsSeen (worker program setting replies).end }
 {}
 
@@ -35,4 +36,10 @@ pub fn law_prefix()
 /// A report wants one of the nine types that each table has, or none, whose number is 0.
 pub fn law_wants()
     ensures { (program : Program) (setting : Setting) (replies : List Reply) (report : Report) → (worker program setting replies).end ≡ Ends (Reported report) → report.want ≤ 9 }
+{}
+
+/// A worker that ends with a report ends with the one that the reply of its last entry gives, or with that of a pointer out of its reach, whose
+/// word and reach it tells.
+pub fn law_reported()
+    ensures { ReportedLaw }
 {}

@@ -8,7 +8,9 @@ mod scalar;
 mod tree;
 
 pub use c_types::Text;
-pub use laws::{law_ended, law_prefix, law_spent, law_turns_looked_at, law_wants};
+pub use laws::{
+    law_nothing_lost, law_prefix, law_reported, law_spent, law_turns_looked_at, law_wants,
+};
 pub use names::{NameError, find_entry};
 pub use record::{Ending, Record, Report, Setting};
 pub use scalar::{CheckedPointer, Scalar};

@@ -7,28 +7,28 @@ use Rattle.heap_model.specs.Forms.{fits_call, region_for}
 use Rattle.heap_model.specs.Heap.{empty}
 use Rattle.heap_model.specs.Legal.{IsLegal, Meets, of_region, own, replay}
 use Rattle.heap_model.specs.Preference.{preference_of}
-use Rattle.heap_model.specs.State.{State, StandsFor, Place}
+use Rattle.heap_model.specs.State.{State, StandsFor, SlotState}
 use Rattle.heap_model.specs.declared.calls.Entry.{Entry}
 use Rattle.heap_model.proofs.Push.{IsLegal-push, replay-push}
 use Rattle.typed_heap.specs.Takes.{KnowsElements}
-use Rattle.typed_heap.specs.Places.{place_at}
+use Rattle.typed_heap.specs.SlotStates.{state_at}
 use Rattle.region_heaps.specs.Kept.{IsHeapOf, Keeps}
 use Rattle.region_heaps.specs.Regions.{AreEmpty, Steps, heap_of}
-use Rattle.region_heaps.proofs.Places.{region_for-range}
+use Rattle.region_heaps.proofs.ByRegion.{region_for-range}
 use Rattle.region_heaps.proofs.Pushed.{of_region-push_here, of_region-push_there, own-push_here, own-push_there, StampsFrom-push, InRegions-push, IsWellNumbered-push}
 
 -- ---- at first
 
-KnowsElements-none : (types : List CType) (heap : State) → heap.places ≡ [] → KnowsElements types heap
+KnowsElements-none : (types : List CType) (heap : State) → heap.states ≡ [] → KnowsElements types heap
 KnowsElements-none types heap none n object is =
-    absurd (none-some _ (sym (ap (λ (places : List Place). (place_at places n).body) none) ∙ is))
+    absurd (none-some _ (sym (ap (λ (states : List SlotState). (state_at states n).body) none) ∙ is))
 
 pub Keeps-none : (types : List CType) (heaps : List State) (counts : ℕ → ℕ) → length heaps ≡ 27 → AreEmpty heaps 27 → ((w : ℕ) → counts w ≡ 0) → Keeps types heaps counts []
 Keeps-none types heaps counts count are_empty none = record {
   count = count;
   each = λ r low high.
       let heap = are_empty r low high in
-      record { region_is = heap.region_is; legal = tt; stands = heap.stands; elements = KnowsElements-none types (heap_of heaps r) heap.places };
+      record { region_is = heap.region_is; legal = tt; stands = heap.stands; elements = KnowsElements-none types (heap_of heaps r) heap.states };
   counts_are = none;
   numbered = λ w. tt;
   stamps = tt;

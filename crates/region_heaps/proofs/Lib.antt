@@ -1,4 +1,4 @@
 pub mod Pushed
 mod Stamped
-mod Places
+mod ByRegion
 mod Keeping

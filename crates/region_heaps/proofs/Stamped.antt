@@ -20,7 +20,7 @@ AllByRecursion-filter P p (e ∷ es) all = go (AllByRecursion-filter P p es all.
     go rest true = (all.0, rest)
     go rest false = rest
 
--- the stamps of the entries behind the first are above its own
+-- the stamps of the entries after the first are above its own
 above_first : (n : ℕ) (e : Entry) (es : List Entry) → StampsFrom n (e ∷ es) → AllByRecursion (λ f. e.stamp < f.stamp) es
 above_first n e es stamps = above e.stamp (suc n) es (omega (arith, stamps.0)) stamps.1
 

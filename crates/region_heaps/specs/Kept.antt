@@ -5,6 +5,7 @@ use Rattle.c_types.specs.Table.{basic_types}
 use Rattle.heap_model.specs.Heap.{empty}
 use Rattle.heap_model.specs.Legal.{InRegions, IsLegal, IsWellNumbered, of_region, own, replay}
 use Rattle.heap_model.specs.Preference.{preference_of}
+use Rattle.heap_model.specs.Regions.{last_region}
 use Rattle.heap_model.specs.State.{State, StandsFor}
 use Rattle.heap_model.specs.declared.calls.Entry.{Entry}
 use Rattle.typed_heap.specs.Takes.{KnowsElements}
@@ -26,8 +27,8 @@ pub record IsHeapOf (types : List CType) (heap : State) (region : ℕ) (history 
 
 -- Each region's heap is that of its entries, and each worker's count that of its entries.
 pub record Keeps (types : List CType) (heaps : List State) (counts : ℕ → ℕ) (history : List Entry) : Type 0 where
-  pub count : length heaps ≡ 27
-  pub each : (region : ℕ) → 1 ≤ region → region ≤ 27 → IsHeapOf types (heap_of heaps region) region (of_region region history)
+  pub count : length heaps ≡ last_region
+  pub each : (region : ℕ) → 1 ≤ region → region ≤ last_region → IsHeapOf types (heap_of heaps region) region (of_region region history)
   pub counts_are : (worker : ℕ) → counts worker ≡ length (own history worker)
   pub numbered : IsWellNumbered history
   pub stamps : StampsFrom 1 history

@@ -12,7 +12,7 @@ use Rattle.heap_model.specs.declared.calls.Reply.{Reply}
 use Rattle.typed_heap.specs.Takes.{KnowsElements}
 
 abbrev pub no_heap : State
-no_heap = record { region = 0; places = [] }
+no_heap = record { region = 0; states = [] }
 
 -- the heap of a region
 abbrev pub heap_of : List State → ℕ → State
@@ -22,7 +22,7 @@ heap_of heaps (suc n) = get_or heaps n no_heap
 -- this is the empty heap of a region
 pub record IsEmptyHeap (heap : State) (region : ℕ) : Type 0 where
   pub region_is : heap.region ≡ region
-  pub places : heap.places ≡ []
+  pub states : heap.states ≡ []
   pub stands : StandsFor heap empty
 
 -- the heaps of the regions up to this one are empty

@@ -76,7 +76,7 @@ impl RegionHeaps {
     }
 
     /// Makes a call of a worker on the heap of the call's region, and adds it to the history with the heap's reply. The
-    /// worker's calls are numbered from 0, and the stamps of the history from 1. The error is want of memory.
+    /// worker's calls are numbered from 0, and the stamps of the history from 1. The error is that it is out of memory.
     pub fn call(&mut self, worker: u32, call: &Call) -> Result<Reply, AllocError>
         requires region { IsSome (forms.region_for call.now) }
         requires fits { fits_call call.now ≡ true }

@@ -6,12 +6,9 @@ ghost use Rattle.typed_heap.specs.Takes.{KnowsElements, KnowsTypes, moves_number
 ghost use Rattle.region_heaps.specs.Regions.{AreEmpty, Steps, heap_of};
 
 use c_types::TypeTable;
-use heap_model::{Call, Reply};
+use heap_model::{Call, REGIONS, Reply};
 use std::alloc::{AllocError, Global};
 use typed_heap::RegionHeap;
-
-/// How many regions there are.
-pub(crate) const REGIONS: u32 = 27;
 
 /// The empty heaps of all regions.
 pub(crate) fn empty_heaps(alloc: Global) -> Result<Vec<RegionHeap>, AllocError>

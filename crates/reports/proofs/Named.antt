@@ -22,7 +22,7 @@ drop_at : (es : List Entry) (at : ℕ) (e : Entry) → slice_get es at ≡ Some 
 drop_at es at e h =
     drop-cons es at e (slice_get_within es at e h) ∙ ap (λ x. x ∷ drop (suc at) es) (get_or_from_slice_get es at e e h)
 
--- the first that passes is here, or behind
+-- the first that passes is here, or further on
 pub find_from : (test : Name → Bool) (es : List Entry) (at : ℕ) (e : Entry) → slice_get es at ≡ Some e →
     find test (filter_map placed_name (drop at es))
     ≡ option_or (find test (filter_map placed_name (e ∷ []))) (find test (filter_map placed_name (drop (suc at) es)))
@@ -51,7 +51,7 @@ found_here test es at e (Some o) whole h before is some =
     find_from test es at e h ∙ ap (λ x. option_or x (find test (filter_map placed_name (drop (suc at) es)))) (sym is) in
     sym from ∙ before
 
--- and goes on behind one that did not
+-- and goes on after one that did not
 pub not_here : (test : Name → Bool) (es : List Entry) (at : ℕ) (e : Entry) (here : Option Object) (whole : Option Name) →
     slice_get es at ≡ Some e → find test (filter_map placed_name (drop at es)) ≡ whole →
     option_map name_of here ≡ find test (filter_map placed_name (e ∷ [])) → is_some here ≡ false →

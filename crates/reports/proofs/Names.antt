@@ -16,7 +16,7 @@ pub name_start : (types : List CType) (n : ℕ) → name_within (n - 0) types n 
 unfolding type_name
 name_start types n = append-nil (name_within (n - 0) types n) ∙ ap (λ d. name_within d types n) (omega arith)
 
--- a pointer's star stands behind the name of what it points to, and before the stars of the pointers to it
+-- a pointer's star stands after the name of what it points to, and before the stars of the pointers to it
 pub name_pointer : (types : List CType) (n i at to : ℕ) (whole : List ℕ) → i < n → kind_of types at ≡ Some (Pointer to) →
     name_within (n - i) types at ++ replicate i 42 ≡ whole → name_within (n - (i + 1)) types to ++ replicate (i + 1) 42 ≡ whole
 name_pointer types n i at to whole h e before =

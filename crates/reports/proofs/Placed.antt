@@ -5,7 +5,7 @@ use Rattle.std.specs.Option.{option_to_list}
 use Rattle.std.proofs.lemmas.List.Elements.{filter-append}
 use Rattle.heap_model.specs.Regions.{Slot, slot_of, address_of, version_of}
 use Rattle.heap_model.specs.Cells.{Cell, Stores, Adds, access_cells}
-use Rattle.heap_model.specs.Heap.{Object, empty, made_count, with_made, with_died, with_cells, recelled}
+use Rattle.heap_model.specs.Heap.{Object, empty, made_count, with_new, with_dead, with_cells, with_cells_if}
 use Rattle.heap_model.specs.Answers.{Name, Words, names, is_at, slot_at, offset, datum, new_object, next}
 use Rattle.heap_model.specs.Preference.{Preference}
 use Rattle.heap_model.specs.Legal.{Answers, AllocAnswers, IsLegalFrom, IsLegal, after, replay, ApartLaw}
@@ -72,13 +72,13 @@ live_died is dies (o ∷ live) =
 
 -- new cells change no name
 live_recelled : (is at : Name → Bool) (f : List (Cell ℕ) → List (Cell ℕ)) (live : Live) →
-    live_passing is (map (recelled at f) live) ≡ live_passing is live
+    live_passing is (map (with_cells_if at f) live) ≡ live_passing is live
 live_recelled is at f [] = refl
 live_recelled is at f (o ∷ live) =
-    let rest : Live = map (recelled at f) live in
+    let rest : Live = map (with_cells_if at f) live in
     let before : live_passing is rest ≡ live_passing is live = live_recelled is at f live in
     elim (is o.name) as
-    (λ b. length (cond b (recelled at f o ∷ filter (λ x. is x.name) rest) (filter (λ x. is x.name) rest))
+    (λ b. length (cond b (with_cells_if at f o ∷ filter (λ x. is x.name) rest) (filter (λ x. is x.name) rest))
     ≡ length (cond b (o ∷ filter (λ x. is x.name) live) (filter (λ x. is x.name) live)))
     [ true ↦ omega arith | false ↦ before ]
 
@@ -100,10 +100,10 @@ name_made : (worker number word : ℕ) (s : Slot) → slot_of (address_of word) 
 unfolding slot_at
 name_made worker number word s e = rw e
 
-made_count-made : (is : Name → Bool) (h : Words) (o : Object Name ℕ) → made_count is (with_made o h) ≡ made_count is h + passing is (o.name ∷ [])
+made_count-made : (is : Name → Bool) (h : Words) (o : Object Name ℕ) → made_count is (with_new o h) ≡ made_count is h + passing is (o.name ∷ [])
 made_count-made is h o = omega (arith, live_made is h.live o)
 
-made_count-died : (is dies : Name → Bool) (h : Words) → made_count is (with_died dies h) ≡ made_count is h
+made_count-died : (is dies : Name → Bool) (h : Words) → made_count is (with_dead dies h) ≡ made_count is h
 made_count-died is dies h =
     omega (arith, live_died is dies h.live, passing_append is (map (λ o. o.name) (filter (λ o. dies o.name) h.live)) h.dead)
 

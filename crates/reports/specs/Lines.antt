@@ -11,7 +11,7 @@ use Rattle.plain_meaning.specs.declared.record.Ending.{Ending}
 use Rattle.plain_meaning.specs.declared.record.Ending.TheVariants.{Finished, Spent, Reported}
 use Rattle.plain_meaning.specs.declared.record.Record.{Record}
 use Rattle.reports.specs.TypeNames.{type_name}
-use Rattle.reports.specs.Objects.{object_named, place_shown, bounds_shown}
+use Rattle.reports.specs.Objects.{object_named, pointer_text, bounds_text}
 
 abbrev pub kind_name : ReportKind → List ℕ
 kind_name WrongType = codes "WrongType"
@@ -26,14 +26,14 @@ kind_name NotPointer = codes "NotPointer"
 kind_name Escape = codes "Escape"
 kind_name Compare = codes "Compare"
 
--- what is told behind the kind: of the first pointer's object, of the second's, and of the type that was wanted
+-- what is told after the kind: of the first pointer's object, of the second's, and of the type that was wanted
 abbrev pub details : Option Name → Option Name → List ℕ → Report → ReportKind → List ℕ
 details first second want r Null = []
-details first second want r WrongType = codes " " ++ place_shown first r.first ++ codes " want " ++ want
-details first second want r Bounds = codes " " ++ place_shown first r.first ++ bounds_shown first r.first_reach
-details first second want r Escape = codes " " ++ place_shown first r.first ++ bounds_shown first r.first_reach
-details first second want r Compare = codes " " ++ place_shown first r.first ++ codes " " ++ place_shown second r.second
-details first second want r _ = codes " " ++ place_shown first r.first
+details first second want r WrongType = codes " " ++ pointer_text first r.first ++ codes " want " ++ want
+details first second want r Bounds = codes " " ++ pointer_text first r.first ++ bounds_text first r.first_reach
+details first second want r Escape = codes " " ++ pointer_text first r.first ++ bounds_text first r.first_reach
+details first second want r Compare = codes " " ++ pointer_text first r.first ++ codes " " ++ pointer_text second r.second
+details first second want r _ = codes " " ++ pointer_text first r.first
 
 -- each pointer is at the object that it names by the beginning of its reach
 abbrev pub first_object : List Entry → Report → Option Name

@@ -4,8 +4,8 @@ use Rattle.heap_model.specs.Answers.{Name}
 use Rattle.reports.specs.declared.slot.Slot.{Slot}
 use Rattle.reports.specs.declared.object.Object.{Object}
 
-abbrev pub slot_meant : Slot → regions.Slot
-slot_meant s = record { region = s.region; number = s.number }
+abbrev pub slot_name : Slot → regions.Slot
+slot_name s = record { region = s.region; number = s.number }
 
 abbrev pub name_of : Object → Name
-name_of o = record { slot = slot_meant o.slot; version = o.version; worker = o.worker; number = o.number }
+name_of o = record { slot = slot_name o.slot; version = o.version; worker = o.worker; number = o.number }

@@ -43,7 +43,7 @@ OneNamedLaw =
     (preferred : Preference) (history : List Entry) → IsLegal preferred history → (anchor word : ℕ) →
     length (filter (names anchor word) (placed_names history)) ≤ 1
 
--- how far the address of a word is behind the first byte of an object, or behind address 0, modulo 2^40
+-- how far the address of a word is past the first byte of an object, or past address 0, modulo 2^40
 abbrev pub distance : Option Name → ℕ → ℕ
 distance None word = address_of word
 distance (Some name) word = offset_in name.slot (address_of word)
@@ -52,16 +52,16 @@ distance (Some name) word = offset_in name.slot (address_of word)
 abbrev pub signed_offset : ℕ → ℤ
 signed_offset k = if nat_lt k (2 ^ 39) then pos k else pos k -ℤ pos (2 ^ 40)
 
-abbrev pub offset_shown : Option Name → ℕ → List ℕ
-offset_shown object word = signed_decimal (signed_offset (distance object word))
+abbrev pub offset_text : Option Name → ℕ → List ℕ
+offset_text object word = signed_decimal (signed_offset (distance object word))
 
-abbrev pub object_shown : Option Name → List ℕ
-object_shown None = codes "none"
-object_shown (Some name) = codes "object " ++ decimal name.worker ++ codes "#" ++ decimal name.number
+abbrev pub object_text : Option Name → List ℕ
+object_text None = codes "none"
+object_text (Some name) = codes "object " ++ decimal name.worker ++ codes "#" ++ decimal name.number
 
-abbrev pub place_shown : Option Name → ℕ → List ℕ
-place_shown object word = object_shown object ++ codes " offset " ++ offset_shown object word
+abbrev pub pointer_text : Option Name → ℕ → List ℕ
+pointer_text object word = object_text object ++ codes " offset " ++ offset_text object word
 
 -- a reach, as offsets
-abbrev pub bounds_shown : Option Name → Reach → List ℕ
-bounds_shown object reach = codes " bounds " ++ offset_shown object reach.lo ++ codes " " ++ offset_shown object reach.hi
+abbrev pub bounds_text : Option Name → Reach → List ℕ
+bounds_text object reach = codes " bounds " ++ offset_text object reach.lo ++ codes " " ++ offset_text object reach.hi

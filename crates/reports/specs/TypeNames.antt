@@ -1,4 +1,4 @@
--- The names of types, as C writes them (C11 6.7.7), with a star behind for each pointer.
+-- The names of types, as C writes them (C11 6.7.7), with a star after it for each pointer.
 use Rattle.std.specs.Prelude.{ℕ, zero, suc, ◌==◌, if◌then◌else◌, Bool, true, false, List, [], ◌++◌, codes, Option, Some, None}
 use Rattle.c_types.specs.declared.table.CType.{CType}
 use Rattle.c_types.specs.declared.table.CType.TheVariants.{Void, Num, Pointer, Array, Flexible, Struct, Union}

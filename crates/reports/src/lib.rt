@@ -4,7 +4,7 @@
 mod endings;
 mod laws;
 mod object;
-mod place;
+mod pointer;
 mod report;
 mod slot;
 mod type_name;

@@ -5,7 +5,7 @@ ghost use Rattle.std.specs.List.{filter_map};
 ghost use Rattle.heap_model.specs.Regions as regions;
 ghost use Rattle.heap_model.specs.Answers.{is_at};
 ghost use Rattle.reports.specs.Objects as spec;
-ghost use Rattle.reports.specs.Meant.{slot_meant, name_of};
+ghost use Rattle.reports.specs.Meant.{slot_name, name_of};
 
 use crate::slot::Slot;
 use heap_model::{Call, Entry, History, Reply, address_of, region_of, slot_number, version_of};
@@ -21,7 +21,7 @@ pub struct Object {
 
 /// The slot that an address is in.
 fn slot_of(address: u64) -> Option<Slot>
-    ensures { option_map slot_meant result ≡ regions.slot_of address }
+    ensures { option_map slot_name result ≡ regions.slot_of address }
 {
     let region = region_of(address)?;
     let number = slot_number(address)?;
@@ -29,7 +29,7 @@ fn slot_of(address: u64) -> Option<Slot>
 }
 
 /// The object that an entry placed.
-fn placed(entry: &Entry) -> Option<Object>
+fn object_of(entry: &Entry) -> Option<Object>
     ensures { option_map name_of result ≡ spec.placed_name entry.now }
 {
     match (entry.call, entry.reply) {
@@ -47,10 +47,10 @@ fn placed(entry: &Entry) -> Option<Object>
 }
 
 /// The object that an entry placed, if it is in this slot and has this version.
-fn placed_as(entry: &Entry, slot: Slot, version: u32) -> Option<Object>
-    ensures { option_map name_of result ≡ find (is_at (Some (slot_meant slot)) version) (filter_map spec.placed_name (entry.now ∷ [])) }
+fn object_in(entry: &Entry, slot: Slot, version: u32) -> Option<Object>
+    ensures { option_map name_of result ≡ find (is_at (Some (slot_name slot)) version) (filter_map spec.placed_name (entry.now ∷ [])) }
 {
-    let object = placed(entry)?;
+    let object = object_of(entry)?;
     if object.slot == slot && object.version == version {
         Some(object)
     } else {
@@ -65,7 +65,7 @@ pub fn object_named(history: &History, anchor: u64, word: u64) -> Option<Object>
     let slot = slot_of(anchor)?;
     let version = version_of(word);
     for at in 0..history.len() {
-        let found = placed_as(&history.get(at), slot, version);
+        let found = object_in(&history.get(at), slot, version);
         if found.is_some() {
             return found;
         }

@@ -4,7 +4,7 @@ ghost use Rattle.std.specs.Prelude.{◌≡◌, ◌≤◌, ◌++◌, OnOk, length
 ghost use Rattle.reports.specs.Lines as spec;
 
 use crate::object::object_named;
-use crate::place::{append_bounds, append_place};
+use crate::pointer::{append_bounds, append_pointer};
 use crate::type_name::append_type;
 use c_types::TypeTable;
 use heap_model::{History, ReportKind};
@@ -29,7 +29,7 @@ fn kind_name(kind: ReportKind) -> &'static [u8]
     }
 }
 
-/// Adds what is told behind the kind.
+/// Adds what is told after the kind.
 fn append_details(
     alloc: Global,
     to: &mut Text,
@@ -45,7 +45,7 @@ fn append_details(
     }
     let first = object_named(history, report.first_reach.lo, report.first);
     to.append(b" ")?;
-    append_place(alloc, to, first, report.first)?;
+    append_pointer(alloc, to, first, report.first)?;
     match report.kind {
         ReportKind::WrongType => {
             to.append(b" want ")?;
@@ -57,13 +57,13 @@ fn append_details(
         ReportKind::Compare => {
             let second = object_named(history, report.second_reach.lo, report.second);
             to.append(b" ")?;
-            append_place(alloc, to, second, report.second)
+            append_pointer(alloc, to, second, report.second)
         }
         _ => Ok(()),
     }
 }
 
-/// Adds the line of a report behind its prefix.
+/// Adds the line of a report after its prefix.
 pub fn append_report(
     alloc: Global,
     to: &mut Text,

@@ -27,7 +27,7 @@ fn base_name(kind: CType) -> &'static [u8]
 }
 
 /// The name of what is at the end of a row of pointers, and how many they are. The number 0, which is no type's, has no name.
-fn pointed(types: &TypeTable, number: TypeNo) -> (&'static [u8], u32)
+fn base_and_stars(types: &TypeTable, number: TypeNo) -> (&'static [u8], u32)
     requires { number ≤ length types.now }
     ensures { result.0.now ++ replicate result.1 42 ≡ type_name types.now number }
 {
@@ -46,7 +46,7 @@ pub fn append_type(to: &mut Text, types: &TypeTable, number: TypeNo) -> Result<(
     requires { number ≤ length types.now }
     ensures { OnOk result (to.new ≡ to.old ++ type_name types.now number) }
 {
-    let (base, pointers) = pointed(types, number);
+    let (base, pointers) = base_and_stars(types, number);
     to.append(base)?;
     for _ in 0..pointers {
         to.push(b'*')?;

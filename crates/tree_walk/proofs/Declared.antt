@@ -3,7 +3,7 @@ use Rattle.std.proofs.Common.{◌≡◌, ℕ, [], ◌∷◌, ◌++◌, length, s
 use Rattle.std.specs.Prelude.{slice_set, slice_index_or}
 use Rattle.std.proofs.Math.Seq.{set-append_seam}
 use Rattle.plain_meaning.specs.declared.tree.Target.{Target}
-use Rattle.plain_meaning.specs.declared.tree.Pointer.{Pointer as Named}
+use Rattle.plain_meaning.specs.declared.tree.Pointer.{Pointer as PointerVariable}
 use Rattle.plain_meaning.specs.declared.scalar.Scalar.{Scalar}
 use Rattle.plain_meaning.specs.declared.scalar.Scalar.TheVariants.{Pointer}
 use Rattle.plain_meaning.specs.declared.scalar.CheckedPointer.{CheckedPointer}
@@ -14,14 +14,14 @@ use Rattle.plain_meaning.specs.Meaning.{cast}
 use Rattle.tree_walk.specs.declared.walk.Walk.{Walk}
 use Rattle.tree_walk.specs.Steps.{Events, Passes}
 use Rattle.tree_walk.proofs.Passing.{to_words}
-use Rattle.tree_walk.proofs.Places.{pointer_passes}
+use Rattle.tree_walk.proofs.PointerActions.{pointer_passes}
 
-pub last_set : (variables inside made : Variables CheckedPointer) (z x : Scalar CheckedPointer) (place : ℕ) → inside ≡ variables ++ z ∷ [] →
-    place ≡ length variables → made ≡ slice_set inside place x → variables ++ x ∷ [] ≡ made
-last_set variables inside made z x place is at set =
-    sym (set ∙ ap (λ v. slice_set v place x) is ∙ ap (λ n. slice_set (variables ++ z ∷ []) n x) at ∙ set-append_seam variables z [] x)
+pub last_set : (variables inside made : Variables CheckedPointer) (z x : Scalar CheckedPointer) (lvalue : ℕ) → inside ≡ variables ++ z ∷ [] →
+    lvalue ≡ length variables → made ≡ slice_set inside lvalue x → variables ++ x ∷ [] ≡ made
+last_set variables inside made z x lvalue is at set =
+    sym (set ∙ ap (λ v. slice_set v lvalue x) is ∙ ap (λ n. slice_set (variables ++ z ∷ []) n x) at ∙ set-append_seam variables z [] x)
 
-pub cast_begins : (walk : Walk) (line : ℕ) (target : Target) (source : Named) (q : CheckedPointer) →
+pub cast_begins : (walk : Walk) (line : ℕ) (target : Target) (source : PointerVariable) (q : CheckedPointer) →
     q ≡ pointer_of (slice_index_or walk.variables.items source.variable zero_of) → (next : Scalar CheckedPointer → Events) →
     Passes walk (cast line target source walk.variables.items next) walk (Turn line (Point line (Convert (type_of target)) (Pointer q) zero_of next))
 cast_begins walk line target source q is next =

@@ -1,5 +1,5 @@
 pub mod Passing
-pub mod Places
+pub mod PointerActions
 pub mod Operands
 pub mod Declared
 pub mod Loops

@@ -7,11 +7,11 @@ use Rattle.plain_meaning.specs.declared.tree.Statement.{Statement}
 use Rattle.plain_meaning.specs.declared.tree.Statement.TheVariants as s
 use Rattle.plain_meaning.specs.Tree.{Turn, Lost}
 use Rattle.plain_meaning.specs.Values.{Variables}
-use Rattle.plain_meaning.specs.Meaning.{Does, expression, in_order, repeated, statement}
+use Rattle.plain_meaning.specs.Meaning.{Does, expression, in_order, repeat, statement}
 use Rattle.plain_meaning.proofs.Equations.{statement_block, statement_while}
-use Rattle.tree_walk.specs.declared.stop.Stop.{Stop as Stopped}
+use Rattle.tree_walk.specs.declared.stop.Stop.{Stop as StopReason}
 use Rattle.tree_walk.specs.declared.walk.Walk.{Walk}
-use Rattle.tree_walk.specs.Steps.{Events, Passes, Leads, Walks, Keeps, no_value, itself, tested}
+use Rattle.tree_walk.specs.Steps.{Events, Passes, Leads, Walks, Keeps, no_value, itself, test_of}
 use Rattle.tree_walk.proofs.Passing.{nothing, passes_on, to_words, begin, stops, settles}
 
 abbrev pub Nexts : Type 0
@@ -45,7 +45,7 @@ block_more start here new all i x done lt is at walks fewer =
       fewer = omega (arith, at.fewer);
     }
 
-pub block_stops : (start here new : Walk) (all : List Statement) (i : ℕ) (x : Statement) (why : Stopped) → i < length all → x ≡ get_or all i x →
+pub block_stops : (start here new : Walk) (all : List Statement) (i : ℕ) (x : Statement) (why : StopReason) → i < length all → x ≡ get_or all i x →
     InBlock start all here (drop i all) → Walks here x (Err why) new → Walks start (s.Block all) (Err why) new
 block_stops start here new all i x why lt is at walks =
     let first = block_first start here all i x lt is at in
@@ -72,7 +72,7 @@ block_ends start here new all i past at others is = λ n le next.
 -- ---- the rounds of a loop
 
 abbrev pub rounds : ℕ → Expression → Statement → ℕ → ℕ → Does CheckedPointer (Unit {0})
-rounds line test body n k = repeated k line (expression line test) (statement n body)
+rounds line test body n k = repeat k line (expression line test) (statement n body)
 
 -- so many more rounds are looked at as serve for the turns that are left
 pub record Rounds (start : Walk) (line : ℕ) (test : Expression) (body : Statement) (n : ℕ) (here : Walk) : Type 0 where
@@ -105,9 +105,9 @@ turning : (start here : Walk) (line : ℕ) (test : Expression) (body : Statement
     Turning start line test body n here next
 turning start here line test body n zero next passes = record { rest = Lost; passes = passes }
 turning start here line test body n (suc k) next passes =
-    record { rest = tested line test here.variables.items (at_test test body line n k here.variables.items next); passes = passes }
+    record { rest = test_of line test here.variables.items (at_test test body line n k here.variables.items next); passes = passes }
 
-pub loop_spent : (start here new : Walk) (line : ℕ) (test : Expression) (body : Statement) (why : Stopped) → InLoop start line test body here →
+pub loop_spent : (start here new : Walk) (line : ℕ) (test : Expression) (body : Statement) (why : StopReason) → InLoop start line test body here →
     Leads {A = Unit {0}} {B = Unit {0}} here (λ next. Turn line (next tt)) no_value (Err why) new → Walks start (s.While line test body) (Err why) new
 loop_spent start here new line test body why at leads = λ n le.
     stops {A = Unit {0}} {B = Variables CheckedPointer} {C = Unit {0}} {D = Unit {0}} start here new (statement n (s.While line test body) start.variables.items) (λ done. new.variables.items)
@@ -123,7 +123,7 @@ pub record Testing (start : Walk) (line : ℕ) (test : Expression) (body : State
   pub more : ℕ
   pub enough : turned.left ≤ more
   pub passes : (next : Nexts) → Passes start (statement n (s.While line test body) start.variables.items next) turned
-      (tested line test turned.variables.items (at_test test body line n more turned.variables.items next))
+      (test_of line test turned.variables.items (at_test test body line n more turned.variables.items next))
 
 testing_from : (start here turned : Walk) (line : ℕ) (test : Expression) (body : Statement) (n k : ℕ) → here.left ≤ k →
     turned ≡ record here { left = here.left - 1 } → turned.left < here.left →
@@ -137,9 +137,9 @@ testing_from start here turned line test body n (suc k) enough is taken leads pa
       more = k;
       enough = omega arith;
       passes = λ next.
-          to_words (tested line test turned.variables.items (at_test test body line n k turned.variables.items next))
-          (ap (λ v. tested line test v.items (at_test test body line n k v.items next)) (sym kept))
-          (passes_on (passes next) (leads (λ done. tested line test here.variables.items (at_test test body line n k here.variables.items next))));
+          to_words (test_of line test turned.variables.items (at_test test body line n k turned.variables.items next))
+          (ap (λ v. test_of line test v.items (at_test test body line n k v.items next)) (sym kept))
+          (passes_on (passes next) (leads (λ done. test_of line test here.variables.items (at_test test body line n k here.variables.items next))));
     }
 
 pub testing : (start here turned : Walk) (line : ℕ) (test : Expression) (body : Statement) (n : ℕ) → start.left ≤ n → InLoop start line test body here →
@@ -154,18 +154,18 @@ pub record Turned (here turned : Walk) (line : ℕ) : Type 0 where
   pub taken : turned.left < here.left
   pub leads : Leads {A = Unit {0}} {B = Unit {0}} here (λ next. Turn line (next tt)) no_value (Ok tt) turned
 
-pub loop_test_stops : (start here turned new : Walk) (line : ℕ) (test : Expression) (body : Statement) (why : Stopped) → InLoop start line test body here →
-    Turned here turned line → Leads {A = Bool} {B = Bool} turned (tested line test turned.variables.items) itself (Err why) new →
+pub loop_test_stops : (start here turned new : Walk) (line : ℕ) (test : Expression) (body : Statement) (why : StopReason) → InLoop start line test body here →
+    Turned here turned line → Leads {A = Bool} {B = Bool} turned (test_of line test turned.variables.items) itself (Err why) new →
     Walks start (s.While line test body) (Err why) new
 loop_test_stops start here turned new line test body why at turn leads = λ n le.
     let now = testing start here turned line test body n le at turn.is turn.taken turn.leads in
     stops {A = Unit {0}} {B = Variables CheckedPointer} {C = Bool} start turned new (statement n (s.While line test body) start.variables.items) (λ done. new.variables.items)
-    (tested line test turned.variables.items) itself why
+    (test_of line test turned.variables.items) itself why
     (λ next. (at_test test body line n now.more turned.variables.items next, now.passes next)) leads
 
 -- the value of the test
 pub record Valued (turned here : Walk) (line : ℕ) (test : Expression) (v : Bool) : Type 0 where
-  pub leads : Leads {A = Bool} {B = Bool} turned (tested line test turned.variables.items) itself (Ok v) here
+  pub leads : Leads {A = Bool} {B = Bool} turned (test_of line test turned.variables.items) itself (Ok v) here
   pub kept : Keeps turned here
 
 pub loop_leaves : (start here turned valued : Walk) (line : ℕ) (test : Expression) (body : Statement) (v : Bool) → InLoop start line test body here →
@@ -196,7 +196,7 @@ body_next start here turned valued line test body v n le at turn value on =
           (begin valued (ap (λ b. cond b (statement n body turned.variables.items again) (next turned.variables.items)) on)))),
     )
 
-pub loop_stops : (start here turned valued new : Walk) (line : ℕ) (test : Expression) (body : Statement) (v : Bool) (why : Stopped) → InLoop start line test body here →
+pub loop_stops : (start here turned valued new : Walk) (line : ℕ) (test : Expression) (body : Statement) (v : Bool) (why : StopReason) → InLoop start line test body here →
     Turned here turned line → Valued turned valued line test v → v ≡ true → Walks valued body (Err why) new →
     Walks start (s.While line test body) (Err why) new
 loop_stops start here turned valued new line test body v why at turn value on walks = λ n le.

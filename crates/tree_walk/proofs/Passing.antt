@@ -8,23 +8,23 @@ use Rattle.heap_model.specs.declared.calls.Reply.TheVariants as reply
 use Rattle.heap_model.specs.declared.calls.Entry.{Entry}
 use Rattle.heap_model.specs.declared.calls.ReportKind.{ReportKind}
 use Rattle.tree_walk.specs.declared.reports.Subject.{Subject}
-use Rattle.tree_walk.specs.declared.stop.Stop.{Stop as Stopped}
+use Rattle.tree_walk.specs.declared.stop.Stop.{Stop as StopReason}
 use Rattle.tree_walk.specs.declared.stop.Stop.TheVariants.{Ended, Memory}
 use Rattle.plain_meaning.specs.declared.record.Ending.TheVariants.{Spent}
 use Rattle.plain_meaning.specs.declared.scalar.Scalar.{Scalar}
 use Rattle.plain_meaning.specs.declared.scalar.CheckedPointer.{CheckedPointer}
-use Rattle.plain_meaning.specs.Tree.{Place, Stop, Print, Turn, Point}
-use Rattle.plain_meaning.specs.Points.{Checked, Go, Halt, Onward, Now, Ask, pointer_of, reach_at, want_at, report_on, report_at, checked, checked_told}
+use Rattle.plain_meaning.specs.Tree.{Action, Stop, Print, Turn, Point}
+use Rattle.plain_meaning.specs.Points.{Checked, Go, Halt, Onward, Now, Ask, pointer_of, reach_at, want_at, report_on, report_at, checked_point, checked_next}
 use Rattle.plain_meaning.specs.Acts.{acts, goes, resolve, feed}
 use Rattle.plain_meaning.specs.Values.{Variables}
 use Rattle.plain_meaning.specs.Run.{checked_acts, calls_of, replies_of}
 use Rattle.tree_walk.specs.declared.walk.Walk.{Walk}
-use Rattle.tree_walk.specs.Steps.{Events, Seen, seen, ahead, Passes, Leads, Asked, IsAbout, IsNoReport, onward}
+use Rattle.tree_walk.specs.Steps.{Events, View, view, ahead, Passes, Leads, IsAsked, IsAbout, IsNoReport, onward}
 
 pub seen_same : {entries entries' : List Entry} {text text' : List ℕ} {left left' : ℕ} (t : Events) (replies : List Reply) →
-    entries ≡ entries' → text ≡ text' → left ≡ left' → seen entries text left t replies ≡ seen entries' text' left' t replies
+    entries ≡ entries' → text ≡ text' → left ≡ left' → view entries text left t replies ≡ view entries' text' left' t replies
 seen_same {entries} {entries'} {text} {text'} {left} {left'} t replies a b c =
-    ap (λ x. seen x text left t replies) a ∙ ap (λ x. seen entries' x left t replies) b ∙ ap (λ x. seen entries' text' x t replies) c
+    ap (λ x. view x text left t replies) a ∙ ap (λ x. view entries' x left t replies) b ∙ ap (λ x. view entries' text' x t replies) c
 
 all_of_both : (xs ys : List Entry) → AllByRecursion (λ e. e.worker ≡ 1) xs → AllByRecursion (λ e. e.worker ≡ 1) ys → AllByRecursion (λ e. e.worker ≡ 1) (xs ++ ys)
 all_of_both [] ys p q = q
@@ -80,12 +80,12 @@ pub turned : (old new : Walk) (line : ℕ) (t : Events) → 0 < old.left → new
 turned old new line t some is =
     let e : old.left ≡ suc (old.left - 1) = omega arith in
     subst (λ w. Passes old (Turn line t) w t) (sym is)
-    (quietly old (one_less old) (Turn line t) t refl (λ replies. ap (λ l. seen old.heaps old.text l (Turn line t) replies) e))
+    (quietly old (one_less old) (Turn line t) t refl (λ replies. ap (λ l. view old.heaps old.text l (Turn line t) replies) e))
 
 pub spent : (old new : Walk) (line : ℕ) (t : Events) → old.left ≡ 0 → Alike old new → Passes old (Turn line t) new (Stop (Spent line))
 spent old new line t none alike =
     quietly old new (Turn line t) (Stop (Spent line)) alike.heaps (λ replies.
-    ap (λ l. seen old.heaps old.text l (Turn line t) replies) none
+    ap (λ l. view old.heaps old.text l (Turn line t) replies) none
     ∙ seen_same {left = old.left} {left' = new.left} (Stop (Spent line)) replies (sym alike.heaps) (sym alike.text) (sym alike.left))
 
 -- ---- texts
@@ -94,7 +94,7 @@ pub printed : (old : Walk) (bytes : List ℕ) (t : Events) → Passes old (Print
 printed old bytes t =
     quietly old (record old { text = old.text ++ bytes }) (Print bytes t) t refl (λ replies.
     let p = feed replies (checked_acts old.left t) in
-    ap (λ x. let r : Seen = record { calls = calls_of old.heaps ++ p.calls; text = x; end = p.end } in r) (sym (append_assoc old.text bytes p.text)))
+    ap (λ x. let r : View = record { calls = calls_of old.heaps ++ p.calls; text = x; end = p.end } in r) (sym (append_assoc old.text bytes p.text)))
 
 -- ---- points
 
@@ -104,43 +104,43 @@ goes_onward left (Go v note) f replies = refl
 goes_onward left (Halt ending note) f replies = refl
 
 -- a point that asks nothing
-pub passed : (walk : Walk) (line : ℕ) (place : Place) (u w : Scalar CheckedPointer) (f : Scalar CheckedPointer → Events) (onwards : Onward) →
-    checked tt line place u w ≡ Now onwards → Passes walk (Point line place u w f) walk (onward f onwards)
-passed walk line place u w f onwards is =
-    quietly walk walk (Point line place u w f) (onward f onwards) refl (λ replies.
-    let tells = checked_told tt line place u w in
+pub passed : (walk : Walk) (line : ℕ) (action : Action) (u w : Scalar CheckedPointer) (f : Scalar CheckedPointer → Events) (onwards : Onward) →
+    checked_point tt line action u w ≡ Now onwards → Passes walk (Point line action u w f) walk (onward f onwards)
+passed walk line action u w f onwards is =
+    quietly walk walk (Point line action u w f) (onward f onwards) refl (λ replies.
+    let tells = checked_next tt line action u w in
     ap (λ a. let p = feed replies (resolve Checked a tells (λ v note. acts Checked note walk.left (f v))) in
-    let r : Seen = record { calls = calls_of walk.heaps ++ p.calls; text = walk.text ++ p.text; end = p.end } in r) is
-    ∙ ap (λ p. let r : Seen = record { calls = calls_of walk.heaps ++ p.calls; text = walk.text ++ p.text; end = p.end } in r)
+    let r : View = record { calls = calls_of walk.heaps ++ p.calls; text = walk.text ++ p.text; end = p.end } in r) is
+    ∙ ap (λ p. let r : View = record { calls = calls_of walk.heaps ++ p.calls; text = walk.text ++ p.text; end = p.end } in r)
     (goes_onward walk.left onwards f replies))
 
 -- a point that asks a call, whose entry is added
-pub asked : (old new : Walk) (line : ℕ) (place : Place) (u w : Scalar CheckedPointer) (f : Scalar CheckedPointer → Events) (call : Call) (e : Entry) →
-    checked tt line place u w ≡ Ask call → e.call ≡ call → e.worker ≡ 1 → new.heaps ≡ old.heaps ++ e ∷ [] → new.text ≡ old.text → new.left ≡ old.left →
-    Passes old (Point line place u w f) new (onward f (checked_told tt line place u w e.reply))
-asked old new line place u w f call e is call_is one heaps text left = record {
+pub asked : (old new : Walk) (line : ℕ) (action : Action) (u w : Scalar CheckedPointer) (f : Scalar CheckedPointer → Events) (call : Call) (e : Entry) →
+    checked_point tt line action u w ≡ Ask call → e.call ≡ call → e.worker ≡ 1 → new.heaps ≡ old.heaps ++ e ∷ [] → new.text ≡ old.text → new.left ≡ old.left →
+    Passes old (Point line action u w f) new (onward f (checked_next tt line action u w e.reply))
+asked old new line action u w f call e is call_is one heaps text left = record {
   more = e ∷ [];
   grown = heaps;
   of_one = (one, tt);
   same = λ replies.
-      let tells = checked_told tt line place u w in
+      let tells = checked_next tt line action u w in
       let after = onward f (tells e.reply) in
       let p = feed replies (checked_acts old.left after) in
       ap (λ a. let q = feed (e.reply ∷ replies) (resolve Checked a tells (λ v note. acts Checked note old.left (f v))) in
-      let r : Seen = record { calls = calls_of old.heaps ++ q.calls; text = old.text ++ q.text; end = q.end } in r) is
-      ∙ ap (λ q. let r : Seen = record { calls = calls_of old.heaps ++ (call ∷ q.calls); text = old.text ++ q.text; end = q.end } in r)
+      let r : View = record { calls = calls_of old.heaps ++ q.calls; text = old.text ++ q.text; end = q.end } in r) is
+      ∙ ap (λ q. let r : View = record { calls = calls_of old.heaps ++ (call ∷ q.calls); text = old.text ++ q.text; end = q.end } in r)
       (goes_onward old.left (tells e.reply) f replies)
-      ∙ ap (λ c. let r : Seen = record { calls = calls_of old.heaps ++ (c ∷ p.calls); text = old.text ++ p.text; end = p.end } in r) (sym call_is)
-      ∙ ap (λ c. let r : Seen = record { calls = c; text = old.text ++ p.text; end = p.end } in r)
+      ∙ ap (λ c. let r : View = record { calls = calls_of old.heaps ++ (c ∷ p.calls); text = old.text ++ p.text; end = p.end } in r) (sym call_is)
+      ∙ ap (λ c. let r : View = record { calls = c; text = old.text ++ p.text; end = p.end } in r)
       (sym (append_assoc (calls_of old.heaps) (e.call ∷ []) p.calls) ∙ ap (λ c. c ++ p.calls) (sym (map-append (λ (x : Entry). x.call) old.heaps (e ∷ []))))
       ∙ seen_same after replies (sym heaps) (sym text) (sym left);
 }
 
-pub report_same : (subject : Subject) (place : Place) (p : CheckedPointer) (kind : ReportKind) → IsAbout subject place p →
-    report_at place kind subject.line p ≡ report_on kind subject.line subject.word subject.reach subject.want
-report_same subject place p kind about =
-    ap (λ w. report_on kind subject.line w (reach_at place p) (want_at place)) (sym about.word)
-    ∙ ap (λ r. report_on kind subject.line subject.word r (want_at place)) (sym about.reach)
+pub report_same : (subject : Subject) (action : Action) (p : CheckedPointer) (kind : ReportKind) → IsAbout subject action p →
+    report_at action kind subject.line p ≡ report_on kind subject.line subject.word subject.reach subject.want
+report_same subject action p kind about =
+    ap (λ w. report_on kind subject.line w (reach_at action p) (want_at action)) (sym about.word)
+    ∙ ap (λ r. report_on kind subject.line subject.word r (want_at action)) (sym about.reach)
     ∙ ap (λ w. report_on kind subject.line subject.word subject.reach w) (sym about.want)
 
 -- ---- one step after another
@@ -151,28 +151,28 @@ Begins {B} {D} old does here first = (next : B → Events) → (k : D → Events
 
 -- where that step stops, all stops
 pub stops : {A B C D : Type 0} (old here new : Walk) (does : (B → Events) → Events) (value : A → B) (first : (D → Events) → Events) (given : C → D)
-    (s : Stopped) → Begins old does here first → Leads here first given (Err s) new → Leads old does value (Err s) new
+    (s : StopReason) → Begins old does here first → Leads here first given (Err s) new → Leads old does value (Err s) new
 stops old here new does value first given (Ended ending) begins leads = λ next. let b = begins next in passes_on b.1 (leads b.0)
 stops old here new does value first given (Memory error) begins leads = tt
 
 -- where a call on the heap stops, all stops
-pub ask_stops : {A B : Type 0} (old here new : Walk) (does : (B → Events) → Events) (value : A → B) (call : Call) (subject : Subject) (place : Place)
-    (u w : Scalar CheckedPointer) (f : (B → Events) → Scalar CheckedPointer → Events) (s : Stopped) → checked tt subject.line place u w ≡ Ask call →
-    IsAbout subject place (pointer_of u) → ((next : B → Events) → Passes old (does next) here (Point subject.line place u w (f next))) →
-    Asked here call subject (Err s) new → Leads old does value (Err s) new
-ask_stops old here new does value call subject place u w f (Ended ending) asks about before asked =
-    λ next. passes_on (before next) (asked place u w (f next) asks about)
-ask_stops old here new does value call subject place u w f (Memory error) asks about before asked = tt
+pub ask_stops : {A B : Type 0} (old here new : Walk) (does : (B → Events) → Events) (value : A → B) (call : Call) (subject : Subject) (action : Action)
+    (u w : Scalar CheckedPointer) (f : (B → Events) → Scalar CheckedPointer → Events) (s : StopReason) → checked_point tt subject.line action u w ≡ Ask call →
+    IsAbout subject action (pointer_of u) → ((next : B → Events) → Passes old (does next) here (Point subject.line action u w (f next))) →
+    IsAsked here call subject (Err s) new → Leads old does value (Err s) new
+ask_stops old here new does value call subject action u w f (Ended ending) asks about before asked =
+    λ next. passes_on (before next) (asked action u w (f next) asks about)
+ask_stops old here new does value call subject action u w f (Memory error) asks about before asked = tt
 
 -- what goes on whatever the reply, so long as it is no report
-pub done_onward : (line : ℕ) (place : Place) (u w : Scalar CheckedPointer) (t : Events) (r : Reply) → IsNoReport r →
-    onward (λ done. t) (checked_told tt line place u w r) ≡ t
-done_onward line place u w t (reply.Placed word) quiet = refl
-done_onward line place u w t reply.NoSlot quiet = refl
-done_onward line place u w t reply.Done quiet = refl
-done_onward line place u w t (reply.Found reach) quiet = refl
-done_onward line place u w t (reply.Value v) quiet = refl
-done_onward line place u w t (reply.Report kind) quiet = absurd quiet
+pub done_onward : (line : ℕ) (action : Action) (u w : Scalar CheckedPointer) (t : Events) (r : Reply) → IsNoReport r →
+    onward (λ done. t) (checked_next tt line action u w r) ≡ t
+done_onward line action u w t (reply.Placed word) quiet = refl
+done_onward line action u w t reply.NoSlot quiet = refl
+done_onward line action u w t reply.Done quiet = refl
+done_onward line action u w t (reply.Found reach) quiet = refl
+done_onward line action u w t (reply.Value v) quiet = refl
+done_onward line action u w t (reply.Report kind) quiet = absurd quiet
 
 -- ---- statements
 
@@ -197,7 +197,7 @@ pub goes_on_with : (here : Walk) (next : Variables CheckedPointer → Events) (b
 goes_on_with here next before kept = to_words (next here.variables.items) (ap (λ v. next v.items) (sym kept)) (nothing here (next before.variables.items))
 
 -- what is led to from one state is led to from an earlier one
-pub leads_through : {A B : Type 0} (old here new : Walk) (does first : (B → Events) → Events) (value : A → B) (r : Result A Stopped) →
+pub leads_through : {A B : Type 0} (old here new : Walk) (does first : (B → Events) → Events) (value : A → B) (r : Result A StopReason) →
     ((next : B → Events) → Passes old (does next) here (first next)) → Leads here first value r new → Leads old does value r new
 leads_through old here new does first value (Ok x) before leads = λ next. passes_on (before next) (leads next)
 leads_through old here new does first value (Err (Ended ending)) before leads = λ next. passes_on (before next) (leads next)

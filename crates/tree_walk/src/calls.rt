@@ -1,4 +1,4 @@
-//! The places at which a program makes heap calls.
+//! What a program does with pointers by calls on the heap.
 
 ghost use Rattle.std.specs.Prelude.{◌≡◌, OnOk};
 ghost use Rattle.std.specs.Int.{w32, w64, cast_signed, cast_unsigned};
@@ -9,15 +9,12 @@ ghost use Rattle.plain_meaning.specs.Values as values;
 ghost use Rattle.plain_meaning.specs.Meaning as meaning;
 ghost use Rattle.tree_walk.specs.Steps.{Leads, Keeps, no_value, itself};
 
-use crate::pointers::{NULL, is_null, kind_of, may_escape, placed, slot_bounds, type_of};
+use crate::pointers::{NULL, is_null, kind_of, may_escape, new_pointer, slot_bounds, type_of};
 use crate::reports::{Subject, escape};
 use crate::stop::Stop;
 use crate::walk::Walk;
-use heap_model::{Call, Reply, Value};
+use heap_model::{Call, MAX_OBJECT_BYTES, Reply, Value};
 use plain_meaning::{CheckedPointer, Ending, Target};
-
-/// The largest object, in bytes.
-const LARGEST: u32 = 1048559;
 
 impl Walk {
     /// `malloc(size)` of an object of a type.
@@ -27,10 +24,10 @@ impl Walk {
         target: Target,
         size: u32,
     ) -> Result<CheckedPointer, Stop>
-        ensures leads { Leads self.old (meaning.allocated line target size) Pointer result self.new }
+        ensures leads { Leads self.old (meaning.allocation line target size) Pointer result self.new }
         ensures kept { OnOk result (Keeps self.old self.new) }
     {
-        if size > LARGEST {
+        if u64::from(size) > MAX_OBJECT_BYTES {
             return Ok(NULL);
         }
         self.turn(line)?;
@@ -41,7 +38,7 @@ impl Walk {
         };
         let subject = Subject::of(line, &NULL);
         match self.ask(&call, &subject)? {
-            Reply::Placed(word) => Ok(placed(word, size)),
+            Reply::Placed(word) => Ok(new_pointer(word, size)),
             _ => Ok(NULL),
         }
     }
@@ -87,18 +84,18 @@ impl Walk {
         &mut self,
         line: u32,
         target: Target,
-        place: CheckedPointer,
+        lvalue: CheckedPointer,
     ) -> Result<i32, Stop>
-        ensures leads { Leads self.old (λ next. meaning.heap_call line (Load (values.kind_of target)) (Pointer place) values.zero_of (λ v. next (values.converted w32 (number_of v)))) itself result self.new }
+        ensures leads { Leads self.old (λ next. meaning.heap_call line (Load (values.kind_of target)) (Pointer lvalue) values.zero_of (λ v. next (values.conversion w32 (number_of v)))) itself result self.new }
         ensures kept { OnOk result (Keeps self.old self.new) }
     {
         self.turn(line)?;
         let call = Call::Load {
-            p: place.word,
-            reach: place.reach,
+            p: lvalue.word,
+            reach: lvalue.reach,
             kind: kind_of(target),
         };
-        let subject = Subject::of(line, &place);
+        let subject = Subject::of(line, &lvalue);
         match self.ask(&call, &subject)? {
             Reply::Value(value) => Ok(int_of(value.bits)),
             _ => unreachable!(),
@@ -110,30 +107,30 @@ impl Walk {
         &mut self,
         line: u32,
         target: Target,
-        place: CheckedPointer,
+        lvalue: CheckedPointer,
         value: i32,
     ) -> Result<(), Stop>
-        ensures leads { Leads self.old (λ next. meaning.heap_call line (Store (values.kind_of target)) (Pointer place) (Number (values.converted (values.width_of target) value)) (λ done. next tt)) no_value result self.new }
+        ensures leads { Leads self.old (λ next. meaning.heap_call line (Store (values.kind_of target)) (Pointer lvalue) (Number (values.conversion (values.width_of target) value)) (λ done. next tt)) no_value result self.new }
         ensures kept { OnOk result (Keeps self.old self.new) }
     {
         self.turn(line)?;
         let call = Call::Store {
-            p: place.word,
-            reach: place.reach,
+            p: lvalue.word,
+            reach: lvalue.reach,
             kind: kind_of(target),
             value: Value {
                 bits: bits_of(target, value),
                 pointer: false,
             },
         };
-        let subject = Subject::of(line, &place);
+        let subject = Subject::of(line, &lvalue);
         self.ask(&call, &subject)?;
         Ok(())
     }
 
     /// `free(pointer)`, which leaves null alone.
     pub(crate) fn release(&mut self, line: u32, pointer: CheckedPointer) -> Result<(), Stop>
-        ensures leads { Leads self.old (λ next. meaning.released line (Pointer pointer) (next tt)) no_value result self.new }
+        ensures leads { Leads self.old (λ next. meaning.release line (Pointer pointer) (next tt)) no_value result self.new }
         ensures kept { OnOk result (Keeps self.old self.new) }
     {
         if !may_escape(&pointer) {
@@ -160,14 +157,14 @@ impl Walk {
 
 /// The number of these bits as an `int`: the low bits are kept (C11 6.3.1.3).
 fn int_of(bits: u64) -> i32
-    ensures { result ≡ values.converted w32 (cast_signed w64 bits) }
+    ensures { result ≡ values.conversion w32 (cast_signed w64 bits) }
 {
     ((bits % (1 << 32)) as u32).cast_signed()
 }
 
 /// A number as one of the type that is pointed to, as 64 bits.
 fn bits_of(target: Target, value: i32) -> u64
-    ensures { result ≡ cast_unsigned w64 (values.converted (values.width_of target) value) }
+    ensures { result ≡ cast_unsigned w64 (values.conversion (values.width_of target) value) }
 {
     match target {
         Target::Int => i64::from(value).cast_unsigned(),

@@ -3,10 +3,10 @@
 ghost use Rattle.std.specs.Prelude.{◌≡◌, OnOk};
 ghost use Rattle.plain_meaning.specs.declared.scalar.Scalar.TheVariants.{Pointer};
 ghost use Rattle.plain_meaning.specs.Meaning as meaning;
-ghost use Rattle.tree_walk.specs.Steps.{Leads, Keeps, itself, tested};
+ghost use Rattle.tree_walk.specs.Steps.{Leads, Keeps, itself, test_of};
 
 use crate::operators::{is_true, operate};
-use crate::pointers::{moved, size_of};
+use crate::pointers::{shift, size_of};
 use crate::stop::Stop;
 use crate::walk::Walk;
 use plain_meaning::{CheckedPointer, Expression, Pointer as NamedPointer};
@@ -27,8 +27,8 @@ impl Walk {
                 Ok(operate(*operator, a, b))
             }
             Expression::Element(pointer, index) => {
-                let place = self.element(line, *pointer, index.get())?;
-                let value = self.load(line, pointer.target, place)?;
+                let lvalue = self.element(line, *pointer, index.get())?;
+                let value = self.load(line, pointer.target, lvalue)?;
                 Ok(value)
             }
         }
@@ -36,14 +36,14 @@ impl Walk {
 
     /// Whether a test holds (C11 6.8.4.1, 6.8.5).
     pub(crate) fn holds(&mut self, line: u32, test: &Expression) -> Result<bool, Stop>
-        ensures leads { Leads self.old (tested line test.now self.old.variables.items) itself result self.new }
+        ensures leads { Leads self.old (test_of line test.now self.old.variables.items) itself result self.new }
         ensures kept { OnOk result (Keeps self.old self.new) }
     {
         let value = self.value(line, test)?;
         Ok(is_true(value))
     }
 
-    /// The place of `NAME[index]`: first the pointer, then the index.
+    /// The lvalue `NAME[index]`: first the pointer, then the index.
     #[cycle(values)]
     pub(crate) fn element(
         &mut self,
@@ -56,6 +56,6 @@ impl Walk {
     {
         let base = self.pointer(pointer.variable);
         let count = self.value(line, index)?;
-        Ok(moved(base, count, size_of(pointer.target)))
+        Ok(shift(base, count, size_of(pointer.target)))
     }
 }

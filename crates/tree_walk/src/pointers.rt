@@ -38,8 +38,8 @@ pub(crate) fn may_escape(pointer: &CheckedPointer) -> bool
 
 /// The pointer to a new object of this size.
 #[tactic(auto, unfolding(heap_model::specs::Regions::address_of))]
-pub(crate) fn placed(word: u64, size: u32) -> CheckedPointer
-    ensures { result ≡ points.placed word size }
+pub(crate) fn new_pointer(word: u64, size: u32) -> CheckedPointer
+    ensures { result ≡ points.new_pointer word size }
 {
     let lo = address_of(word);
     let hi = lo + u64::from(size);
@@ -68,7 +68,7 @@ pub(crate) fn slot_bounds(word: u64) -> Reach
 }
 
 /// An address that is moved by so many values of a size, modulo 2^40 (C11 6.5.6p8).
-fn moved_address(address: u64, count: i32, size: u32) -> u64
+fn shift_address(address: u64, count: i32, size: u32) -> u64
     requires address { address < 2 ^ 40 }
     requires size { size ≤ 8 }
     ensures value { result ≡ reaches.moved_address address count size }
@@ -83,11 +83,11 @@ fn moved_address(address: u64, count: i32, size: u32) -> u64
 
 /// A pointer that is moved so, its version and its reach kept.
 #[tactic(auto, unfolding(heap_model::specs::Regions::address_of, heap_model::specs::Regions::version_of, heap_model::specs::Reaches::moved))]
-pub(crate) fn moved(pointer: CheckedPointer, count: i32, size: u32) -> CheckedPointer
+pub(crate) fn shift(pointer: CheckedPointer, count: i32, size: u32) -> CheckedPointer
     requires { size ≤ 8 }
-    ensures { result ≡ points.moved_by pointer count size }
+    ensures { result ≡ points.shift pointer count size }
 {
-    let address = moved_address(address_of(pointer.word), count, size);
+    let address = shift_address(address_of(pointer.word), count, size);
     CheckedPointer {
         word: pack(address, version_of(pointer.word)),
         reach: pointer.reach,

@@ -3,7 +3,7 @@
 ghost use Rattle.std.specs.Prelude.{◌≡◌, ◌<◌, length, Some, IfOk};
 ghost use Rattle.std.specs.List.{AllByRecursion};
 ghost use Rattle.plain_meaning.specs.Meaning.{body_of};
-ghost use Rattle.plain_meaning.specs.Run.{Run, Worked, checked_acts};
+ghost use Rattle.plain_meaning.specs.Run.{Run, Works, checked_acts};
 ghost use Rattle.region_heaps.specs.Entries.{StampsFrom};
 ghost use Rattle.tree_walk.specs.Steps.{EndsAs};
 
@@ -48,7 +48,7 @@ pub fn run(alloc: Global, program: &Program, setting: &Setting) -> Result<Record
 
 /// What a worker does that runs this function.
 fn worker(alloc: Global, function: &Function, turns: u32) -> Result<Outcome, AllocError>
-    ensures worked { IfOk result (λ outcome. Worked (checked_acts turns (body_of turns (Some function.now))) outcome.heaps outcome.ending outcome.text) }
+    ensures worked { IfOk result (λ outcome. Works (checked_acts turns (body_of turns (Some function.now))) outcome.heaps outcome.ending outcome.text) }
     ensures alone { IfOk result (λ outcome. AllByRecursion (λ e. e.worker ≡ 1) outcome.heaps) }
 {
     let mut walk = Walk::new(alloc, turns)?;
@@ -61,7 +61,7 @@ fn worker(alloc: Global, function: &Function, turns: u32) -> Result<Outcome, All
     })
 }
 
-/// The ending of a worker whose function is left so, unless memory is wanted.
+/// The ending of a worker whose function is left so, unless it is out of memory.
 fn ending_of(left: Result<(), Stop>) -> Result<Ending, AllocError>
     ensures { IfOk result (λ ending. EndsAs left ending) }
 {

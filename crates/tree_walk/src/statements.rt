@@ -158,9 +158,9 @@ impl Walk {
         ensures walks { Walks self.old (s.ElementAssignment line pointer index.now value.now) result self.new }
         ensures fewer { OnOk result (Fewer self.old self.new) }
     {
-        let place = self.element(line, pointer, index)?;
+        let lvalue = self.element(line, pointer, index)?;
         let value = self.value(line, value)?;
-        self.store(line, pointer.target, place, value)?;
+        self.store(line, pointer.target, lvalue, value)?;
         Ok(())
     }
 

@@ -6,7 +6,7 @@ ghost use Rattle.tree_walk.specs.declared.stop.Stop.TheVariants.{Memory};
 use plain_meaning::Ending;
 use std::alloc::AllocError;
 
-/// A worker has ended, or memory is wanted.
+/// A worker has ended, or is out of memory.
 #[derive(Debug, Drop)]
 pub(crate) enum Stop {
     Ended(Ending),

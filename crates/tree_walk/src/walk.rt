@@ -7,7 +7,7 @@ ghost use Rattle.heap_model.specs.Forms as forms;
 ghost use Rattle.typed_heap.specs.Takes.{KnowsTypes, moves_numbers};
 ghost use Rattle.plain_meaning.specs.Meaning.{number_line};
 ghost use Rattle.plain_meaning.specs.Tree.{Turn};
-ghost use Rattle.tree_walk.specs.Steps.{Leads, Asked, IsNoReport, no_value};
+ghost use Rattle.tree_walk.specs.Steps.{Leads, IsAsked, IsNoReport, no_value};
 
 use crate::reports::Subject;
 use crate::stop::Stop;
@@ -73,7 +73,7 @@ impl Walk {
         requires fits { fits_call call.now ≡ true }
         requires numbers { moves_numbers call.now ≡ true }
         requires types { KnowsTypes basic_types call.now }
-        ensures asked { Asked self.old call.now subject.now result self.new }
+        ensures asked { IsAsked self.old call.now subject.now result self.new }
         ensures suits { IfOk result (λ reply. suits_call call.now reply ≡ true) }
         ensures told { IfOk result (λ reply. IsNoReport reply) }
         ensures others { self.new ≡ record self.old { heaps = self.new.heaps } }

@@ -38,7 +38,7 @@ only_step elem want bytes k bounds (Some b) p h = ap Some (h.2 ∙ both_first el
 pub pref_only : (elem want : Shape) (bytes k : ℕ) (bounds : Bounds) → ArePreferred elem bytes k want bounds → pref elem bytes k want ≡ Some bounds
 pref_only elem want bytes k bounds p = only_step elem want bytes k bounds (pref elem bytes k want) p (pref_found elem bytes k want)
 
--- the candidate behind the bounds
+-- the candidate whose bounds they are
 found_step : (elem want : Shape) (bytes k : ℕ) (bounds : Bounds) (found : Option Bounds) → found ≡ Some bounds →
     MatchOption found (HasNoCandidate elem bytes k want) (λ b. ArePreferred elem bytes k want b) → ArePreferred elem bytes k want bounds
 found_step elem want bytes k bounds None e h = cc

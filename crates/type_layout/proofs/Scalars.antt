@@ -7,7 +7,7 @@ use Rattle.c_types.specs.declared.table.CType.TheVariants as k
 use Rattle.c_types.specs.Shapes.{Shape, Void, Whole, Pointer, Array, Open, Struct, Union, Incomplete, size, number_of, is_complete}
 use Rattle.c_types.specs.Table.{IsTable, IsNumber, IsScalar, IsWidth, HasSize, kind_of, shape_of, shape_of_kind}
 use Rattle.type_layout.specs.declared.object_runs.Run.{Run}
-use Rattle.type_layout.specs.Runs.{ShapeRun, each, runs_of_object, numbered}
+use Rattle.type_layout.specs.Runs.{ShapeRun, each, runs_of_object, with_number}
 use Rattle.type_layout.specs.Search.{run_in, IsRunWithin}
 
 IsScalarShape : ℕ → Shape → Type 0
@@ -98,12 +98,12 @@ module _ (types : List CType) (elem bytes : ℕ) (t : IsTable types) (h : HasSiz
   pub sized : 0 < size (shape_of types elem)
   sized = positive elem (shape_of types elem) (scalar types elem t h)
 
-  pub one_run : map numbered (runs_of_object (shape_of types elem) bytes) ≡ record { kind = elem; lo = 0; count = bytes / size (shape_of types elem) } ∷ []
+  pub one_run : map with_number (runs_of_object (shape_of types elem) bytes) ≡ record { kind = elem; lo = 0; count = bytes / size (shape_of types elem) } ∷ []
   one_run =
       rw (single elem (shape_of types elem) bytes (scalar types elem t h))
       (ap (λ n. record { kind = n; lo = 0; count = bytes / size (shape_of types elem) } ∷ []) (number elem (shape_of types elem) (scalar types elem t h)))
 
-  module _ (runs : List Run) (is : runs ≡ map numbered (runs_of_object (shape_of types elem) bytes)) where
+  module _ (runs : List Run) (is : runs ≡ map with_number (runs_of_object (shape_of types elem) bytes)) where
     listed : runs ≡ record { kind = elem; lo = 0; count = bytes / size (shape_of types elem) } ∷ []
     listed = is ∙ one_run
 

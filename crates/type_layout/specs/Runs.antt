@@ -20,7 +20,7 @@ abbrev pub each : ℕ → (ℕ → List ShapeRun) → List ShapeRun
 each zero f = []
 each (suc n) f = each n f ++ f n
 
--- A run, and behind it what is inside each of its values. Given is what is inside a value at an offset.
+-- A run, and after it what is inside each of its values. An argument says what is inside a value at an offset.
 abbrev pub runs_with : Shape → (ℕ → List ShapeRun) → ℕ → ℕ → List ShapeRun
 runs_with kind inside lo count =
     record { kind = kind; lo = lo; count = count } ∷ each count (λ i. inside (lo + i * size kind))
@@ -79,5 +79,5 @@ unfoldable pub runs_of_object : Shape → ℕ → List ShapeRun
 runs_of_object elem bytes = runs_by (flexible_of elem) elem bytes
 
 -- a run with the number of its type
-abbrev pub numbered : ShapeRun → Run
-numbered run = record { kind = number_of run.kind; lo = run.lo; count = run.count }
+abbrev pub with_number : ShapeRun → Run
+with_number run = record { kind = number_of run.kind; lo = run.lo; count = run.count }

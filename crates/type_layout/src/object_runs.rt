@@ -3,7 +3,7 @@
 ghost use Rattle.std.specs.Prelude.{◌≡◌, IfOk, map};
 ghost use Rattle.c_types.specs.Shapes.{size};
 ghost use Rattle.c_types.specs.Table.{HasSize, shape_of};
-ghost use Rattle.type_layout.specs.Runs.{runs_of_object, numbered};
+ghost use Rattle.type_layout.specs.Runs.{runs_of_object, with_number};
 
 use c_types::{TypeNo, TypeTable, law_table};
 use std::alloc::{AllocError, Global};
@@ -35,7 +35,7 @@ pub fn runs(
     size: u64,
 ) -> Result<Vec<Run>, AllocError>
     requires { HasSize types.now elem }
-    ensures { IfOk result (λ runs. runs.items ≡ map numbered (runs_of_object (shape_of types.now elem) size)) }
+    ensures { IfOk result (λ runs. runs.items ≡ map with_number (runs_of_object (shape_of types.now elem) size)) }
 {
     law_table(types);
     let width = size_in(types, elem);

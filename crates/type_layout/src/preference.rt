@@ -4,7 +4,7 @@ ghost use Rattle.std.specs.Prelude.{◌≡◌, ◌≤◌, ◌<◌, ◌^◌, IfSo
 ghost use Rattle.std.specs.Option.{option_map};
 ghost use Rattle.c_types.specs.Shapes.{size as size_of};
 ghost use Rattle.c_types.specs.Table.{HasSize, IsNumber, shape_of};
-ghost use Rattle.type_layout.specs.Runs.{runs_of_object, numbered, end_of};
+ghost use Rattle.type_layout.specs.Runs.{runs_of_object, with_number, end_of};
 ghost use Rattle.type_layout.specs.Matches as matches;
 ghost use Rattle.type_layout.specs.Preferred as spec;
 ghost use Rattle.type_layout.specs.Preferred.{HasNoCandidate, ArePreferred, pref};
@@ -13,7 +13,7 @@ ghost use Rattle.type_layout.specs.Search as search;
 use crate::object_runs::{Run, size_in};
 use c_types::{CType, TypeNo, TypeTable, law_table};
 
-/// Offsets from an object's first byte: of the first byte inside, and of the first behind.
+/// Offsets from an object's first byte: of the first byte inside, and of the first after them.
 #[derive(Clone, Copy, Debug, PartialEq, Eq)]
 pub struct Bounds {
     pub lo: u64,
@@ -169,7 +169,7 @@ pub fn preferred(
 ) -> Option<Bounds>
     requires elem { HasSize types.now elem }
     requires want { HasSize types.now want }
-    requires runs { runs.now ≡ map numbered (runs_of_object (shape_of types.now elem) size) }
+    requires runs { runs.now ≡ map with_number (runs_of_object (shape_of types.now elem) size) }
     ensures value { result ≡ pref (shape_of types.now elem) size k (shape_of types.now want) }
     ensures first { MatchOption result (HasNoCandidate (shape_of types.now elem) size k (shape_of types.now want)) (λ bounds. ArePreferred (shape_of types.now elem) size k (shape_of types.now want) bounds) }
 {

@@ -4,7 +4,7 @@ use Rattle.std.specs.Prelude.{unwrap_or}
 use Rattle.std.proofs.lemmas.Bool.{eq-eqb, ne_eqb}
 use Rattle.heap_model.specs.Regions.{slot_of, slot_in as slot_within, region_of, slot_address, address_of, version_of}
 use Rattle.heap_model.specs.Heap.{Body, Object, free_outcome}
-use Rattle.heap_model.specs.Answers.{Name, Words, Live, Dead, next, answer_by, check_reply, found, first_byte, offset, slot_at, reply, unless_null}
+use Rattle.heap_model.specs.Answers.{Name, Words, Live, Dead, next, answer_by, check_reply, found_reply, first_byte, offset, slot_at, reply, unless_null}
 use Rattle.heap_model.specs.Preference.{Preference}
 use Rattle.heap_model.specs.State.{State, StandsFor}
 use Rattle.type_layout.specs.declared.preference.Bounds.{Bounds}
@@ -12,7 +12,7 @@ use Rattle.heap_model.specs.declared.calls.Call.TheVariants.{Free, Check}
 use Rattle.heap_model.specs.declared.calls.Reply.{Reply}
 use Rattle.heap_model.specs.declared.calls.Reply.TheVariants.{Done, Report, Found}
 use Rattle.heap_model.specs.declared.calls.ReportKind.TheVariants.{Null, BadFree, WrongType}
-use Rattle.typed_heap.specs.Naming.{IsInSlot, slot_in}
+use Rattle.typed_heap.specs.Naming.{IsInSlot, nth_slot}
 
 module _ (preferred : Preference) (live : Live) (dead : Dead) (p : ℕ) where
   module _ (fixed : Bool) where
@@ -48,16 +48,16 @@ module _ (preferred : Preference) (live : Live) (dead : Dead) (p : ℕ) where
         ∙ ap (check_reply preferred (offset (address_of p) p) (first_byte (address_of p)) want) e)
 
 -- the first byte, where an address is in a slot
-pub first-here : (st : State) (anchor n : ℕ) → IsInSlot st anchor n → first_byte anchor ≡ slot_address (slot_in st n) + 16
+pub first-here : (st : State) (anchor n : ℕ) → IsInSlot st anchor n → first_byte anchor ≡ slot_address (nth_slot st n) + 16
 unfolding first_byte slot_at
 first-here st anchor n at = ap (λ s. slot_address (unwrap_or s (record { region = 0; number = 0 })) + 16) at.slot
 
 -- bounds that are found are told from there
-pub found-none : (first : ℕ) (o : Option Bounds) → o ≡ None → Report WrongType ≡ found first o
-found-none first o e = sym (ap (found first) e)
+pub found-none : (first : ℕ) (o : Option Bounds) → o ≡ None → Report WrongType ≡ found_reply first o
+found-none first o e = sym (ap (found_reply first) e)
 
-pub found-some : (first base : ℕ) (o : Option Bounds) (b : Bounds) → base ≡ first → o ≡ Some b → Found (record { lo = base + b.lo; hi = base + b.hi }) ≡ found first o
-found-some first base o b e is = ap (λ f. Found (record { lo = f + b.lo; hi = f + b.hi })) e ∙ sym (ap (found first) is)
+pub found-some : (first base : ℕ) (o : Option Bounds) (b : Bounds) → base ≡ first → o ≡ Some b → Found (record { lo = base + b.lo; hi = base + b.hi }) ≡ found_reply first o
+found-some first base o b e is = ap (λ f. Found (record { lo = f + b.lo; hi = f + b.hi })) e ∙ sym (ap (found_reply first) is)
 
 -- ---- a free of null
 

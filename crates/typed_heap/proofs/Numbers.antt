@@ -4,7 +4,7 @@ use Rattle.std.proofs.lemmas.List.{drop-map, take-map}
 use Rattle.std.proofs.lemmas.Nat.{pow-add}
 use Rattle.std.proofs.Math.Pow.{pow_mono}
 use Rattle.std.specs.Prelude.{option_map}
-use Rattle.heap_model.specs.Cells.{Cell, Byte, bytes, number_in, put, unmarked, cells_at, cleared}
+use Rattle.heap_model.specs.Cells.{Cell, Byte, bytes, number_in, put, without_mark, cells_at, without_pointer}
 use Rattle.typed_heap.specs.View.{cells}
 
 -- the number of these bytes, the lowest first
@@ -61,16 +61,16 @@ read bs from width i number all is =
 -- ---- bytes that are written
 
 -- the cells of bytes stay where pointer values are cleared
-put-same : (k w : ℕ) (bs : List ℕ) → put k (map unmarked (take w (drop k (cells bs)))) (cells bs) ≡ cells bs
+put-same : (k w : ℕ) (bs : List ℕ) → put k (map without_mark (take w (drop k (cells bs)))) (cells bs) ≡ cells bs
 unfolding put
 put-same k w [] = refl
 put-same zero zero (b ∷ bs) = refl
 put-same zero (suc w) (b ∷ bs) = ap (λ xs. Byte b ∷ xs) (put-same zero w bs)
 put-same (suc k) w (b ∷ bs) = ap (λ xs. Byte b ∷ xs) (put-same k w bs)
 
-pub cleared-cells : (k : ℕ) (bs : List ℕ) → cleared k (cells bs) ≡ cells bs
-unfolding cleared
-cleared-cells k bs = put-same (8 * (k / 8)) 8 bs
+pub without_pointer-cells : (k : ℕ) (bs : List ℕ) → without_pointer k (cells bs) ≡ cells bs
+unfolding without_pointer
+without_pointer-cells k bs = put-same (8 * (k / 8)) 8 bs
 
 -- nothing more is written
 pub put-nothing : {P : Type 0} (k : ℕ) (xs : List (Cell P)) → put k [] xs ≡ xs

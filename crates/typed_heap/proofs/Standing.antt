@@ -1,4 +1,4 @@
--- What a word names by the places, and one place that changes.
+-- What a word names by the states of the slots, and one state that changes.
 use Rattle.std.proofs.Common.{◌≡◌, ℕ, ◌-◌, ◌/◌, ◌^◌, ◌<◌, ◌≤◌, Bool, true, false, cond, ◌&&◌, ◌==◌, List, [], ◌∷◌, ◌++◌, length, get_or, set, Option, Some, None, is_some, refl, sym, ap, ◌∙◌, subst, ◌⊎◌, inl, inr, arith, length-append}
 use Rattle.std.specs.Prelude.{nat_lt, nat_le, option_map, unwrap_or}
 use Rattle.std.proofs.lemmas.List.{get_or-set_same, get_or-set_other, get_or_past, get_or_push, get_or_append_left}
@@ -8,43 +8,43 @@ use Rattle.std.proofs.lemmas.Bool.Decides.{nat_tests}
 use Rattle.heap_model.specs.Regions.{Slot, is_slot, slot_of, slot_number, slot_in as slot_within, first_multiple, size_of, slots, region_of, address_of, version_of, offset_in}
 use Rattle.heap_model.specs.Answers.{offset, slot_at}
 use Rattle.heap_model.specs.Heap.{Body}
-use Rattle.heap_model.specs.State.{State, Place, no_place, place_of, live_at, dead_at, at_slot, live_by, dead_by, Changed, one_if}
-use Rattle.typed_heap.specs.Naming.{IsInSlot, NamesNone, NamesLive, slot_in}
-use Rattle.typed_heap.specs.Places.{place_at, next_object, with_object}
+use Rattle.heap_model.specs.State.{State, SlotState, fresh_slot, state_of, live_at, dead_at, at_slot, live_by, dead_by, ChangesSlot, one_if}
+use Rattle.typed_heap.specs.Naming.{IsInSlot, NamesNone, NamesLive, nth_slot}
+use Rattle.typed_heap.specs.SlotStates.{state_at, next_object, with_object}
 
 -- ---- names
 
-pub here : (st : State) (n : ℕ) → place_of st (slot_in st n) ≡ place_at st.places n
-here st n = ap (λ b. cond b (place_at st.places n) no_place) (eq-eqb st.region st.region refl)
+pub here : (st : State) (n : ℕ) → state_of st (nth_slot st n) ≡ state_at st.states n
+here st n = ap (λ b. cond b (state_at st.states n) fresh_slot) (eq-eqb st.region st.region refl)
 
 module _ (st : State) (anchor n : ℕ) (at : IsInSlot st anchor n) (word : ℕ) where
-  pub live-here : live_by st anchor word ≡ live_at (place_at st.places n) (version_of word)
-  live-here = ap (at_slot (λ t. live_at (place_of st t) (version_of word)) None) at.slot ∙ ap (λ p. live_at p (version_of word)) (here st n)
+  pub live-here : live_by st anchor word ≡ live_at (state_at st.states n) (version_of word)
+  live-here = ap (at_slot (λ t. live_at (state_of st t) (version_of word)) None) at.slot ∙ ap (λ p. live_at p (version_of word)) (here st n)
 
-  pub dead-here : dead_by st anchor word ≡ dead_at (place_at st.places n) (version_of word)
-  dead-here = ap (at_slot (λ t. dead_at (place_of st t) (version_of word)) false) at.slot ∙ ap (λ p. dead_at p (version_of word)) (here st n)
+  pub dead-here : dead_by st anchor word ≡ dead_at (state_at st.states n) (version_of word)
+  dead-here = ap (at_slot (λ t. dead_at (state_of st t) (version_of word)) false) at.slot ∙ ap (λ p. dead_at p (version_of word)) (here st n)
 
 pub live-named : (st : State) (anchor word n : ℕ) (named : NamesLive st anchor word n) → live_by st anchor word ≡ Some named.object
 live-named st anchor word n named =
     live-here st anchor n named.at word
-    ∙ ap (λ b. cond b (place_at st.places n).body None) (eq-eqb _ _ named.version) ∙ named.body
+    ∙ ap (λ b. cond b (state_at st.states n).body None) (eq-eqb _ _ named.version) ∙ named.body
 
 -- where no place is
-live-nowhere : (v : ℕ) → live_at no_place v ≡ None
+live-nowhere : (v : ℕ) → live_at fresh_slot v ≡ None
 live-nowhere v = go (v == 0)
   where
     go : (b : Bool) → ◌≡◌ {A = Option (Body ℕ)} (cond b None None) None
     go true = refl
     go false = refl
 
-dead-nowhere : (v : ℕ) → dead_at no_place v ≡ false
+dead-nowhere : (v : ℕ) → dead_at fresh_slot v ≡ false
 dead-nowhere v = grind (arith, nat_tests)
 
-pub names-none : (st : State) (anchor : ℕ) → at_slot (place_of st) no_place (slot_of anchor) ≡ no_place → (word : ℕ) → NamesNone st anchor word
+pub names-none : (st : State) (anchor : ℕ) → at_slot (state_of st) fresh_slot (slot_of anchor) ≡ fresh_slot → (word : ℕ) → NamesNone st anchor word
 names-none st anchor nowhere word = record { live = (go (slot_of anchor) nowhere).0; dead = (go (slot_of anchor) nowhere).1 }
   where
-    go : (o : Option Slot) → at_slot (place_of st) no_place o ≡ no_place
-        → (at_slot (λ t. live_at (place_of st t) (version_of word)) None o ≡ None) × (at_slot (λ t. dead_at (place_of st t) (version_of word)) false o ≡ false)
+    go : (o : Option Slot) → at_slot (state_of st) fresh_slot o ≡ fresh_slot
+        → (at_slot (λ t. live_at (state_of st t) (version_of word)) None o ≡ None) × (at_slot (λ t. dead_at (state_of st t) (version_of word)) false o ≡ false)
     go None e = (refl, refl)
     go (Some t) e = (ap (λ p. live_at p (version_of word)) e ∙ live-nowhere (version_of word), ap (λ p. dead_at p (version_of word)) e ∙ dead-nowhere (version_of word))
 
@@ -62,33 +62,33 @@ slot-found anchor n r in_region number = go (region_of anchor) in_region number
         two true f = cc
         two false f = cc
 
-pub in-slot : (st : State) (anchor n : ℕ) → region_of anchor ≡ Some st.region → Some n ≡ slot_number anchor → n < length st.places → IsInSlot st anchor n
+pub in-slot : (st : State) (anchor n : ℕ) → region_of anchor ≡ Some st.region → Some n ≡ slot_number anchor → n < length st.states → IsInSlot st anchor n
 in-slot st anchor n in_region number taken = record { taken = taken; slot = slot-found anchor n st.region in_region number }
 
 -- an address of another region, and one in a slot that was not taken
 pub elsewhere : (st : State) (anchor n r : ℕ) → region_of anchor ≡ Some r → Some n ≡ slot_number anchor → (r ≡ st.region → ⊥) → (word : ℕ) → NamesNone st anchor word
 elsewhere st anchor n r in_region number other =
     names-none st anchor
-    (ap (at_slot (place_of st) no_place) (slot-found anchor n r in_region number) ∙ ap (λ b. cond b (get_or st.places n no_place) no_place) (ne_eqb r st.region other))
+    (ap (at_slot (state_of st) fresh_slot) (slot-found anchor n r in_region number) ∙ ap (λ b. cond b (get_or st.states n fresh_slot) fresh_slot) (ne_eqb r st.region other))
 
-pub untaken : (st : State) (anchor n : ℕ) → region_of anchor ≡ Some st.region → Some n ≡ slot_number anchor → length st.places ≤ n → (word : ℕ) → NamesNone st anchor word
+pub untaken : (st : State) (anchor n : ℕ) → region_of anchor ≡ Some st.region → Some n ≡ slot_number anchor → length st.states ≤ n → (word : ℕ) → NamesNone st anchor word
 untaken st anchor n in_region number past =
     names-none st anchor
-    (ap (at_slot (place_of st) no_place) (slot-found anchor n st.region in_region number) ∙ here st n ∙ get_or_past st.places n no_place past)
+    (ap (at_slot (state_of st) fresh_slot) (slot-found anchor n st.region in_region number) ∙ here st n ∙ get_or_past st.states n fresh_slot past)
 
 pub no-slot : (st : State) (anchor : ℕ) → None ≡ slot_number anchor → (word : ℕ) → NamesNone st anchor word
 no-slot st anchor none = names-none st anchor (go (slot_of anchor) none)
   where
-    go : (o : Option Slot) → None ≡ option_map {T = Slot} (λ s. s.number) o → at_slot (place_of st) no_place o ≡ no_place
+    go : (o : Option Slot) → None ≡ option_map {T = Slot} (λ s. s.number) o → at_slot (state_of st) fresh_slot o ≡ fresh_slot
     go None e = refl
     go (Some s) e = cc
 
 pub no-region : (st : State) (anchor : ℕ) → region_of anchor ≡ None → (word : ℕ) → NamesNone st anchor word
 unfolding slot_of slot_within
-no-region st anchor none = names-none st anchor (ap (λ o. at_slot (place_of st) no_place (slot_within o anchor)) none)
+no-region st anchor none = names-none st anchor (ap (λ o. at_slot (state_of st) fresh_slot (slot_within o anchor)) none)
 
--- how far a word is behind the first byte there
-pub offset-here : (st : State) (anchor n : ℕ) → IsInSlot st anchor n → (word : ℕ) → offset anchor word ≡ offset_in (slot_in st n) (address_of word)
+-- how far a word is past the first byte there
+pub offset-here : (st : State) (anchor n : ℕ) → IsInSlot st anchor n → (word : ℕ) → offset anchor word ≡ offset_in (nth_slot st n) (address_of word)
 unfolding offset slot_at
 offset-here st anchor n at word = ap (λ s. offset_in (unwrap_or s (record { region = 0; number = 0 })) (address_of word)) at.slot
 
@@ -108,63 +108,63 @@ few-slots r = omega arith
 -- ---- a change
 
 -- an element that is set, as a choice
-pub set-at : (xs : List Place) (n : ℕ) (p : Place) → n < length xs → (m : ℕ) → get_or (set xs n p) m no_place ≡ cond (m == n) p (get_or xs m no_place)
+pub set-at : (xs : List SlotState) (n : ℕ) (p : SlotState) → n < length xs → (m : ℕ) → get_or (set xs n p) m fresh_slot ≡ cond (m == n) p (get_or xs m fresh_slot)
 set-at xs n p below m = go (cases_eq m n)
   where
-    go : (m ≡ n) ⊎ (m ≡ n → ⊥) → get_or (set xs n p) m no_place ≡ cond (m == n) p (get_or xs m no_place)
+    go : (m ≡ n) ⊎ (m ≡ n → ⊥) → get_or (set xs n p) m fresh_slot ≡ cond (m == n) p (get_or xs m fresh_slot)
     go (inl e) =
-        ap (λ k. get_or (set xs n p) k no_place) e ∙ get_or-set_same xs n p no_place below ∙ ap (λ b. cond b p (get_or xs m no_place)) (sym (eq-eqb m n e))
-    go (inr other) = get_or-set_other xs n m p no_place other ∙ ap (λ b. cond b p (get_or xs m no_place)) (sym (ne_eqb m n other))
+        ap (λ k. get_or (set xs n p) k fresh_slot) e ∙ get_or-set_same xs n p fresh_slot below ∙ ap (λ b. cond b p (get_or xs m fresh_slot)) (sym (eq-eqb m n e))
+    go (inr other) = get_or-set_other xs n m p fresh_slot other ∙ ap (λ b. cond b p (get_or xs m fresh_slot)) (sym (ne_eqb m n other))
 
 -- one that is added
-pub push-at : (xs : List Place) (p : Place) (m : ℕ) → get_or (xs ++ p ∷ []) m no_place ≡ cond (m == length xs) p (get_or xs m no_place)
+pub push-at : (xs : List SlotState) (p : SlotState) (m : ℕ) → get_or (xs ++ p ∷ []) m fresh_slot ≡ cond (m == length xs) p (get_or xs m fresh_slot)
 push-at xs p m = go (cases_eq m (length xs))
   where
-    go : (m ≡ length xs) ⊎ (m ≡ length xs → ⊥) → get_or (xs ++ p ∷ []) m no_place ≡ cond (m == length xs) p (get_or xs m no_place)
-    go (inl e) = get_or_push xs p no_place m (sym e) ∙ ap (λ b. cond b p (get_or xs m no_place)) (sym (eq-eqb m (length xs) e))
-    go (inr other) = two (cases_lt m (length xs)) ∙ ap (λ b. cond b p (get_or xs m no_place)) (sym (ne_eqb m (length xs) other))
+    go : (m ≡ length xs) ⊎ (m ≡ length xs → ⊥) → get_or (xs ++ p ∷ []) m fresh_slot ≡ cond (m == length xs) p (get_or xs m fresh_slot)
+    go (inl e) = get_or_push xs p fresh_slot m (sym e) ∙ ap (λ b. cond b p (get_or xs m fresh_slot)) (sym (eq-eqb m (length xs) e))
+    go (inr other) = two (cases_lt m (length xs)) ∙ ap (λ b. cond b p (get_or xs m fresh_slot)) (sym (ne_eqb m (length xs) other))
       where
-        two : (m < length xs) ⊎ (length xs ≤ m) → get_or (xs ++ p ∷ []) m no_place ≡ get_or xs m no_place
-        two (inl below) = get_or_append_left xs (p ∷ []) no_place m below
-        two (inr past) = get_or_past (xs ++ p ∷ []) m no_place (omega (arith, length-append xs (p ∷ []))) ∙ sym (get_or_past xs m no_place past)
+        two : (m < length xs) ⊎ (length xs ≤ m) → get_or (xs ++ p ∷ []) m fresh_slot ≡ get_or xs m fresh_slot
+        two (inl below) = get_or_append_left xs (p ∷ []) fresh_slot m below
+        two (inr past) = get_or_past (xs ++ p ∷ []) m fresh_slot (omega (arith, length-append xs (p ∷ []))) ∙ sym (get_or_past xs m fresh_slot past)
 
--- a choice between places, for a slot of another region too
-chosen : (st : State) (places : List Place) (n : ℕ) (p : Place) → ((m : ℕ) → get_or places m no_place ≡ cond (m == n) p (get_or st.places m no_place))
-    → (t : Slot) → place_of (record { region = st.region; places = places }) t ≡ cond (is_slot t (slot_in st n)) p (place_of st t)
-chosen st places n p at t = go (t.region == st.region)
+-- a choice between states, for a slot of another region too
+chosen : (st : State) (states : List SlotState) (n : ℕ) (p : SlotState) → ((m : ℕ) → get_or states m fresh_slot ≡ cond (m == n) p (get_or st.states m fresh_slot))
+    → (t : Slot) → state_of (record { region = st.region; states = states }) t ≡ cond (is_slot t (nth_slot st n)) p (state_of st t)
+chosen st states n p at t = go (t.region == st.region)
   where
-    go : (b : Bool) → cond b (get_or places t.number no_place) no_place ≡ cond (b && (t.number == n)) p (cond b (get_or st.places t.number no_place) no_place)
+    go : (b : Bool) → cond b (get_or states t.number fresh_slot) fresh_slot ≡ cond (b && (t.number == n)) p (cond b (get_or st.states t.number fresh_slot) fresh_slot)
     go true = at t.number
     go false = refl
 
-pub changed-set : (st : State) (n : ℕ) (p : Place) → n < length st.places → Changed st (record { region = st.region; places = set st.places n p }) (slot_in st n) p
+pub changed-set : (st : State) (n : ℕ) (p : SlotState) → n < length st.states → ChangesSlot st (record { region = st.region; states = set st.states n p }) (nth_slot st n) p
 changed-set st n p below = record {
   region_is = refl;
-  place = chosen st (set st.places n p) n p (set-at st.places n p below);
-  live = omega (arith, sum_by-set (λ p. one_if (is_some p.body)) st.places n p no_place below, ap (λ p. one_if (is_some p.body)) (here st n));
-  made = omega (arith, sum_by-set (λ p. p.versions) st.places n p no_place below, ap (λ p. p.versions) (here st n));
+  state = chosen st (set st.states n p) n p (set-at st.states n p below);
+  live = omega (arith, sum_by-set (λ p. one_if (is_some p.body)) st.states n p fresh_slot below, ap (λ p. one_if (is_some p.body)) (here st n));
+  made = omega (arith, sum_by-set (λ p. p.versions) st.states n p fresh_slot below, ap (λ p. p.versions) (here st n));
 }
 
-pub changed-push : (st : State) (p : Place) → Changed st (record { region = st.region; places = st.places ++ p ∷ [] }) (slot_in st (length st.places)) p
+pub changed-push : (st : State) (p : SlotState) → ChangesSlot st (record { region = st.region; states = st.states ++ p ∷ [] }) (nth_slot st (length st.states)) p
 changed-push st p =
-    let past : place_of st (slot_in st (length st.places)) ≡ no_place = here st (length st.places) ∙ get_or_past st.places (length st.places) no_place (omega arith) in
+    let past : state_of st (nth_slot st (length st.states)) ≡ fresh_slot = here st (length st.states) ∙ get_or_past st.states (length st.states) fresh_slot (omega arith) in
     record {
       region_is = refl;
-      place = chosen st (st.places ++ p ∷ []) (length st.places) p (push-at st.places p);
-      live = omega (arith, sum_by_push (λ p. one_if (is_some p.body)) st.places p, ap (λ p. one_if (is_some p.body)) past);
-      made = omega (arith, sum_by_push (λ p. p.versions) st.places p, ap (λ p. p.versions) past);
+      state = chosen st (st.states ++ p ∷ []) (length st.states) p (push-at st.states p);
+      live = omega (arith, sum_by_push (λ p. one_if (is_some p.body)) st.states p, ap (λ p. one_if (is_some p.body)) past);
+      made = omega (arith, sum_by_push (λ p. p.versions) st.states p, ap (λ p. p.versions) past);
     }
 
 -- an object is placed in a slot
-pub changed-object : (st : State) (n : ℕ) (o : Body ℕ) → n ≤ length st.places
-    → Changed st (record { region = st.region; places = with_object st.places n o }) (slot_in st n) (next_object (place_of st (slot_in st n)) o)
-changed-object st n o next = go (nat_lt n (length st.places)) refl
+pub changed-object : (st : State) (n : ℕ) (o : Body ℕ) → n ≤ length st.states
+    → ChangesSlot st (record { region = st.region; states = with_object st.states n o }) (nth_slot st n) (next_object (state_of st (nth_slot st n)) o)
+changed-object st n o next = go (nat_lt n (length st.states)) refl
   where
-    go : (b : Bool) → nat_lt n (length st.places) ≡ b
-        → Changed st (record { region = st.region; places = cond b (set st.places n (next_object (place_at st.places n) o)) (st.places ++ next_object no_place o ∷ []) }) (slot_in st n) (next_object (place_of st (slot_in st n)) o)
-    go true e = subst (λ p. Changed st (record { region = st.region; places = set st.places n (next_object (place_at st.places n) o) }) (slot_in st n) (next_object p o)) (sym (here st n)) (changed-set st n (next_object (place_at st.places n) o) (ltb-true _ _ e))
+    go : (b : Bool) → nat_lt n (length st.states) ≡ b
+        → ChangesSlot st (record { region = st.region; states = cond b (set st.states n (next_object (state_at st.states n) o)) (st.states ++ next_object fresh_slot o ∷ []) }) (nth_slot st n) (next_object (state_of st (nth_slot st n)) o)
+    go true e = subst (λ p. ChangesSlot st (record { region = st.region; states = set st.states n (next_object (state_at st.states n) o) }) (nth_slot st n) (next_object p o)) (sym (here st n)) (changed-set st n (next_object (state_at st.states n) o) (ltb-true _ _ e))
     go false e =
-        let last : n ≡ length st.places = omega (arith, ltb-false _ _ e) in
-        let past : place_of st (slot_in st n) ≡ no_place = here st n ∙ get_or_past st.places n no_place (omega arith) in
-        subst (λ p. Changed st (record { region = st.region; places = st.places ++ next_object no_place o ∷ [] }) (slot_in st n) (next_object p o)) (sym past)
-        (subst (λ k. Changed st (record { region = st.region; places = st.places ++ next_object no_place o ∷ [] }) (slot_in st k) (next_object no_place o)) (sym last) (changed-push st (next_object no_place o)))
+        let last : n ≡ length st.states = omega (arith, ltb-false _ _ e) in
+        let past : state_of st (nth_slot st n) ≡ fresh_slot = here st n ∙ get_or_past st.states n fresh_slot (omega arith) in
+        subst (λ p. ChangesSlot st (record { region = st.region; states = st.states ++ next_object fresh_slot o ∷ [] }) (nth_slot st n) (next_object p o)) (sym past)
+        (subst (λ k. ChangesSlot st (record { region = st.region; states = st.states ++ next_object fresh_slot o ∷ [] }) (nth_slot st k) (next_object fresh_slot o)) (sym last) (changed-push st (next_object fresh_slot o)))

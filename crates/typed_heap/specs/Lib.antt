@@ -1,4 +1,4 @@
-pub mod Places
+pub mod SlotStates
 pub mod View
 pub mod Naming
 pub mod Region

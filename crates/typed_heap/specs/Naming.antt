@@ -1,7 +1,7 @@
 -- What a word names among the slots of a region.
 use Rattle.std.specs.Prelude.{◌≡◌, ℕ, ◌<◌, true, false, length, Some, None, ◌==◌}
 use Rattle.heap_model.specs.Regions.{Slot, slot_of, address_of, version_of}
-use Rattle.heap_model.specs.Cells.{Act, misplaced, width}
+use Rattle.heap_model.specs.Cells.{Act, access_report, width}
 use Rattle.heap_model.specs.Heap.{Body}
 use Rattle.heap_model.specs.Answers.{access, is_inside, offset}
 use Rattle.heap_model.specs.Forms.{is_access_report}
@@ -10,17 +10,17 @@ use Rattle.heap_model.specs.declared.calls.Reach.{Reach}
 use Rattle.heap_model.specs.declared.calls.ReportKind.{ReportKind}
 use Rattle.heap_model.specs.declared.calls.Reply.TheVariants.{Report}
 use Rattle.heap_model.specs.State.{State, live_by, dead_by}
-use Rattle.typed_heap.specs.Places.{place_at}
-use Rattle.typed_heap.specs.declared.heap.Named.{Named}
-use Rattle.typed_heap.specs.declared.heap.Named.TheVariants.{Nothing, Dead, Live}
+use Rattle.typed_heap.specs.SlotStates.{state_at}
+use Rattle.typed_heap.specs.declared.heap.NamedObject.{NamedObject}
+use Rattle.typed_heap.specs.declared.heap.NamedObject.TheVariants.{Nothing, Dead, Live}
 
-abbrev pub slot_in : State → ℕ → Slot
-slot_in st n = record { region = st.region; number = n }
+abbrev pub nth_slot : State → ℕ → Slot
+nth_slot st n = record { region = st.region; number = n }
 
 -- an address lies in a slot that was taken
 pub record IsInSlot (st : State) (anchor n : ℕ) : Type 0 where
-  pub taken : n < length st.places
-  pub slot : slot_of anchor ≡ Some (slot_in st n)
+  pub taken : n < length st.states
+  pub slot : slot_of anchor ≡ Some (nth_slot st n)
 
 -- by this anchor a word names no object
 pub record NamesNone (st : State) (anchor word : ℕ) : Type 0 where
@@ -36,22 +36,22 @@ pub record NamesDead (st : State) (anchor word n : ℕ) : Type 0 where
 -- by this anchor a word names the live object of a slot
 pub record NamesLive (st : State) (anchor word n : ℕ) : Type 0 where
   pub at : IsInSlot st anchor n
-  pub version : version_of word ≡ (place_at st.places n).versions
+  pub version : version_of word ≡ (state_at st.states n).versions
   pub object : Body ℕ
-  pub body : (place_at st.places n).body ≡ Some object
+  pub body : (state_at st.states n).body ≡ Some object
 
-abbrev pub Names : State → ℕ → ℕ → Named → Type 0
+abbrev pub Names : State → ℕ → ℕ → NamedObject → Type 0
 Names st anchor word Nothing = NamesNone st anchor word
 Names st anchor word (Dead n) = NamesDead st anchor word n
 Names st anchor word (Live n) = NamesLive st anchor word n
 
--- An access of this kind is in its place: at this offset of the live object of a slot.
-pub record IsLocated (st : State) (p : ℕ) (reach : Reach) (kind : AccessKind) (n k : ℕ) : Type 0 where
+-- An access of this kind may be made: at this offset of the live object of a slot.
+pub record IsAccess (st : State) (p : ℕ) (reach : Reach) (kind : AccessKind) (n k : ℕ) : Type 0 where
   pub not_null : (version_of p == 0) ≡ false
   pub named : NamesLive st reach.lo p n
   pub offset_is : k ≡ offset reach.lo p
-  pub placed : misplaced (is_inside reach (address_of p) (width kind)) k (width kind) (length named.object.cells) ≡ None
+  pub placed : access_report (is_inside reach (address_of p) (width kind)) k (width kind) (length named.object.cells) ≡ None
 
--- An access of this kind is not in its place, and gets this report, whatever it does.
-abbrev pub IsRefused : State → ℕ → Reach → AccessKind → ReportKind → Type 0
-IsRefused st p reach kind report = ((act : Act ℕ) → access (live_by st) p reach kind act ≡ Report report) × (is_access_report report ≡ true)
+-- An access of this kind may not be made, and gets this report, whatever it does.
+abbrev pub GetsReport : State → ℕ → Reach → AccessKind → ReportKind → Type 0
+GetsReport st p reach kind report = ((act : Act ℕ) → access (live_by st) p reach kind act ≡ Report report) × (is_access_report report ≡ true)

@@ -7,7 +7,7 @@ use Rattle.heap_model.specs.State.{State}
 use Rattle.heap_model.specs.Forms.{is_number}
 use Rattle.heap_model.specs.declared.calls.Call.{Call}
 use Rattle.heap_model.specs.declared.calls.Call.TheVariants.{Alloc, Free, Check, Load, Store, Add}
-use Rattle.typed_heap.specs.Places.{place_at}
+use Rattle.typed_heap.specs.SlotStates.{state_at}
 
 -- a call that is no addition and no access to a pointer
 abbrev pub moves_numbers : Call → Bool
@@ -29,9 +29,9 @@ KnowsTypes types (Add p reach kind value) = Unit {0}
 
 -- The element type of each live object has a size in the table.
 abbrev pub KnowsElements : List CType → State → Type 0
-KnowsElements types heap = (n : ℕ) (object : Body ℕ) → (place_at heap.places n).body ≡ Some object → HasSize types object.elem
+KnowsElements types heap = (n : ℕ) (object : Body ℕ) → (state_at heap.states n).body ≡ Some object → HasSize types object.elem
 
--- a call for which memory may be wanted
+-- a call that can be out of memory
 abbrev pub takes_memory : Call → Bool
 takes_memory (Alloc elem size fixed) = true
 takes_memory (Check p want) = true

@@ -11,36 +11,33 @@ ghost use Rattle.heap_model.specs.Heap.{Body, empty, free_outcome};
 ghost use Rattle.heap_model.specs.Legal.{Answers, AllocAnswers};
 ghost use Rattle.heap_model.specs.Preference.{Preference, preference_of};
 ghost use Rattle.heap_model.specs.Regions as regions;
-ghost use Rattle.heap_model.specs.State.{StandsFor, live_places, all_versions, live_by, dead_by};
-ghost use Rattle.typed_heap.specs.Naming.{IsInSlot, IsLocated, IsRefused, NamesLive, NamesNone, Names, slot_in};
-ghost use Rattle.typed_heap.specs.Places.{place_at};
+ghost use Rattle.heap_model.specs.State.{StandsFor, live_objects, all_versions, live_by, dead_by};
+ghost use Rattle.typed_heap.specs.Naming.{IsInSlot, IsAccess, GetsReport, NamesLive, NamesNone, Names, nth_slot};
+ghost use Rattle.typed_heap.specs.SlotStates.{state_at};
 ghost use Rattle.typed_heap.specs.Takes.{KnowsElements, KnowsTypes, moves_numbers, takes_memory};
 
-use crate::accesses::{is_inside, misplaced};
+use crate::accesses::{access_report, is_inside};
 use crate::object::Object;
 use crate::slots::Slots;
 use c_types::{TypeNo, TypeTable};
 use heap_model::{
-    AccessKind, Call, HEADER, Reach, Reply, ReportKind, Value, address_of, extended, law_slots,
-    law_words, offset_of, pack, region_of, slot_address, slot_number, slots_of, version_of,
-    width_of,
+    AccessKind, Call, HEADER_BYTES, MAX_OBJECTS, Reach, Reply, ReportKind, Value, address_of,
+    law_slots, law_words, offset_of, pack, region_of, sign_extension, slot_address, slot_number,
+    slots_of, version_of, width_of,
 };
 use std::alloc::{AllocError, Global};
 use std::marker::Model;
 use type_layout::{Bounds, law_inside, preferred, runs};
 
-/// How many objects may be made in a region: as many as versions tell apart.
-const MOST_MADE: u32 = 0xff_ffff;
-
 /// What a word names: no object, a dead one, or the live one, with the slot.
 #[derive(Clone, Copy, Debug)]
-enum Named {
+enum NamedObject {
     Nothing,
     Dead(u32),
     Live(u32),
 }
 
-/// The place of an access: the slot of a live object, and the offset in the object.
+/// Where an access is made: the slot of a live object, and the offset in the object.
 #[derive(Clone, Copy, Debug)]
 struct Location {
     slot: u32,
@@ -60,19 +57,19 @@ impl Model for RegionHeap {
 
     ghost Value = { State };
 
-    ghost use Rattle.typed_heap.specs.Region.{state, IsRegion};
+    ghost use Rattle.typed_heap.specs.Region.{state, IsHeapOfRegion};
 
     ghost view = { state };
 
-    ghost invariant = { IsRegion };
+    ghost invariant = { IsHeapOfRegion };
 }
 
 impl RegionHeap {
     /// The empty heap of a region.
     pub fn new(alloc: Global, region: u32) -> Result<RegionHeap, AllocError>
-        requires { (1 ≤ region) × (region ≤ 27) }
+        requires { regions.IsRegion region }
         ensures region { IfOk result (λ heap. heap.region ≡ region) }
-        ensures empty { IfOk result (λ heap. heap.places ≡ []) }
+        ensures empty { IfOk result (λ heap. heap.states ≡ []) }
         ensures stands { IfOk result (λ heap. StandsFor heap empty) }
     {
         Ok(RegionHeap {
@@ -91,7 +88,7 @@ impl RegionHeap {
 
     /// How many objects live in the region.
     pub fn live(&self) -> u32
-        ensures { result ≡ live_places self.now }
+        ensures { result ≡ live_objects self.now }
     {
         self.slots.live()
     }
@@ -105,21 +102,21 @@ impl RegionHeap {
 
     /// Whether no further object can be placed.
     fn is_full(&self) -> bool
-        ensures { result ≡ ((live_places self.now == regions.slots self.now.region) || (all_versions self.now == 2 ^ 24 - 1)) }
+        ensures { result ≡ ((live_objects self.now == regions.slots self.now.region) || (all_versions self.now == regions.max_objects)) }
     {
-        self.slots.live() == slots_of(self.region) || self.slots.made() == MOST_MADE
+        self.slots.live() == slots_of(self.region) || self.slots.made() == MAX_OBJECTS
     }
 
     /// The word of the first byte of the last object of a slot.
     fn word(&self, slot: u32) -> u64
-        requires { slot < length self.now.places }
-        ensures address { regions.address_of result ≡ regions.slot_address (slot_in self.now slot) + 16 }
-        ensures slot { regions.slot_of (regions.address_of result) ≡ Some (slot_in self.now slot) }
-        ensures version { regions.version_of result ≡ (place_at self.now.places slot).versions }
+        requires { slot < length self.now.states }
+        ensures address { regions.address_of result ≡ regions.slot_address (nth_slot self.now slot) + regions.header_bytes }
+        ensures slot { regions.slot_of (regions.address_of result) ≡ Some (nth_slot self.now slot) }
+        ensures version { regions.version_of result ≡ (state_at self.now.states slot).versions }
     {
         law_slots();
         law_words();
-        let first = slot_address(self.region, slot) + HEADER;
+        let first = slot_address(self.region, slot) + HEADER_BYTES;
         pack(first, self.slots.version(slot))
     }
 
@@ -132,35 +129,35 @@ impl RegionHeap {
         if region != self.region {
             return None;
         }
-        if slot >= self.slots.taken() {
+        if slot >= self.slots.slot_count() {
             return None;
         }
         Some(slot)
     }
 
     /// What a word that is not null names by an anchor address.
-    fn named(&self, anchor: u64, word: u64) -> Named
+    fn object_named(&self, anchor: u64, word: u64) -> NamedObject
         requires { (regions.version_of word == 0) ≡ false }
         ensures { Names self.now anchor word result }
     {
         let Some(slot) = self.slot(anchor) else {
-            return Named::Nothing;
+            return NamedObject::Nothing;
         };
         let version = version_of(word);
         let last = self.slots.version(slot);
         if version > last {
-            return Named::Nothing;
+            return NamedObject::Nothing;
         }
         if version < last {
-            return Named::Dead(slot);
+            return NamedObject::Dead(slot);
         }
         match self.slots.object(slot) {
-            Some(_) => Named::Live(slot),
-            None => Named::Dead(slot),
+            Some(_) => NamedObject::Live(slot),
+            None => NamedObject::Dead(slot),
         }
     }
 
-    /// How far a word is behind the first byte of the object of a slot, in which the anchor lies.
+    /// How far a word is past the first byte of the object of a slot, in which the anchor lies.
     fn offset(&self, slot: u32, anchor: u64, word: u64) -> u64
         requires { IsInSlot self.now anchor slot }
         ensures value { result ≡ answers.offset anchor word }
@@ -201,10 +198,10 @@ impl RegionHeap {
         if version_of(p) == 0 {
             return Reply::Report(ReportKind::BadFree);
         }
-        match self.named(address_of(p), p) {
-            Named::Nothing => Reply::Report(ReportKind::DoubleFree),
-            Named::Dead(slot) => Reply::Report(self.free_of_dead(slot, p)),
-            Named::Live(slot) => self.free_of_live(slot, p, fixed),
+        match self.object_named(address_of(p), p) {
+            NamedObject::Nothing => Reply::Report(ReportKind::DoubleFree),
+            NamedObject::Dead(slot) => Reply::Report(self.free_of_dead(slot, p)),
+            NamedObject::Live(slot) => self.free_of_live(slot, p, fixed),
         }
     }
 
@@ -225,7 +222,7 @@ impl RegionHeap {
     fn free_of_live(&mut self, slot: u32, p: u64, fixed: bool) -> Reply
         requires version { (regions.version_of p == 0) ≡ false }
         requires named { NamesLive self.old (regions.address_of p) p slot }
-        ensures answer { (dead : Bool) → result ≡ reply (free_outcome (answers.offset (regions.address_of p) p) fixed (place_at self.old.places slot).body dead) }
+        ensures answer { (dead : Bool) → result ≡ reply (free_outcome (answers.offset (regions.address_of p) p) fixed (state_at self.old.states slot).body dead) }
         ensures suits { suits_free result ≡ true }
         ensures next { (worker number : ℕ) (h : Words) → StandsFor self.old h → StandsFor self.new (next worker number h (Call.Free p fixed) result) }
         ensures elements { (types : List CType) → KnowsElements types self.old → KnowsElements types self.new }
@@ -251,14 +248,14 @@ impl RegionHeap {
         if version_of(p) == 0 {
             return Ok(Reply::Report(ReportKind::Null));
         }
-        let Named::Live(slot) = self.named(address_of(p), p) else {
+        let NamedObject::Live(slot) = self.object_named(address_of(p), p) else {
             return Ok(Reply::Report(ReportKind::Free));
         };
         let offset = self.offset(slot, address_of(p), p);
         let Some(bounds) = self.preferred(types, slot, offset, want)? else {
             return Ok(Reply::Report(ReportKind::WrongType));
         };
-        let first = slot_address(self.region, slot) + HEADER;
+        let first = slot_address(self.region, slot) + HEADER_BYTES;
         Ok(Reply::Found(Reach {
             lo: first + bounds.lo,
             hi: first + bounds.hi,
@@ -273,10 +270,10 @@ impl RegionHeap {
         offset: u64,
         want: TypeNo,
     ) -> Result<Option<Bounds>, AllocError>
-        requires taken { slot < length self.now.places }
+        requires taken { slot < length self.now.states }
         requires want { HasSize types.now want }
         requires elements { KnowsElements types.now self.now }
-        ensures value { IfOk result (λ bounds. (o : Body ℕ) → (place_at self.now.places slot).body ≡ Some o
+        ensures value { IfOk result (λ bounds. (o : Body ℕ) → (state_at self.now.states slot).body ≡ Some o
             → bounds ≡ preference_of types.now o.elem (length o.cells) offset want) }
         ensures small { IfOk result (λ bounds. IfSome bounds (λ b. (b.lo < 2 ^ 63) × (b.hi < 2 ^ 63))) }
     {
@@ -289,22 +286,22 @@ impl RegionHeap {
         Ok(preferred(types, object.elem, size, runs.as_slice(), offset, want))
     }
 
-    /// The place of an access, or the report on it: that the word is null, names no live object, is not inside its reach or
+    /// Where an access is made, or the report on it: that the word is null, names no live object, is not inside its reach or
     /// its object, or is not aligned.
-    fn located(&self, p: u64, reach: &Reach, kind: AccessKind) -> Result<Location, ReportKind>
-        ensures { MatchResult result (λ at. IsLocated self.now p reach.now kind at.slot at.offset)
-            (λ report. IsRefused self.now p reach.now kind report) }
+    fn locate(&self, p: u64, reach: &Reach, kind: AccessKind) -> Result<Location, ReportKind>
+        ensures { MatchResult result (λ at. IsAccess self.now p reach.now kind at.slot at.offset)
+            (λ report. GetsReport self.now p reach.now kind report) }
     {
         if version_of(p) == 0 {
             return Err(ReportKind::Null);
         }
-        let Named::Live(slot) = self.named(reach.lo, p) else {
+        let NamedObject::Live(slot) = self.object_named(reach.lo, p) else {
             return Err(ReportKind::Free);
         };
         let offset = self.offset(slot, reach.lo, p);
         let width = width_of(kind);
         let inside = is_inside(reach, address_of(p), width);
-        match misplaced(inside, offset, width, self.slots.size(slot)) {
+        match access_report(inside, offset, width, self.slots.size(slot)) {
             Some(report) => Err(report),
             None => Ok(Location { slot, offset }),
         }
@@ -316,13 +313,13 @@ impl RegionHeap {
         ensures answer { result ≡ access (live_by self.now) p reach.now kind Loads }
         ensures suits { suits_load kind result ≡ true }
     {
-        match self.located(p, reach, kind) {
+        match self.locate(p, reach, kind) {
             Ok(at) => {
                 let number = self
                     .slots
                     .number_at(at.slot, at.offset as usize, width_of(kind) as usize);
                 Reply::Value(Value {
-                    bits: extended(kind, number),
+                    bits: sign_extension(kind, number),
                     pointer: false,
                 })
             }
@@ -339,7 +336,7 @@ impl RegionHeap {
         ensures elements { (types : List CType) → KnowsElements types self.old → KnowsElements types self.new }
         ensures region { self.new.region ≡ self.old.region }
     {
-        match self.located(p, reach, kind) {
+        match self.locate(p, reach, kind) {
             Ok(at) => {
                 self.slots
                     .put_number(at.slot, at.offset as usize, width_of(kind) as usize, bits);
@@ -350,7 +347,7 @@ impl RegionHeap {
     }
 
     /// Answers a call of this region, which is no addition and no access to a pointer. An allocation takes the slot that was
-    /// given back last, or else the next that was never taken. Memory may be wanted for an allocation and a check alone.
+    /// given back last, or else the next that was never taken. Only an allocation and a check can be out of memory.
     pub fn step(&mut self, types: &TypeTable, call: &Call) -> Result<Reply, AllocError>
         requires region { region_for call.now ≡ Some self.old.region }
         requires fits { fits_call call.now ≡ true }

@@ -1,7 +1,7 @@
 use Rattle.std.proofs.Common.{◌+◌, List, [], ◌∷◌, length, sym, ap, subst, arith, length-append, ℕ, ◌≤◌, ◌<◌}
 use Rattle.heap_model.specs.State.{State}
 use Rattle.region_heaps.specs.Regions.{IsEmptyHeap, heap_of}
-use Rattle.region_heaps.proofs.Places.{each-push}
+use Rattle.region_heaps.proofs.ByRegion.{each-push}
 use Rattle.region_heaps.proofs.regions.empty_heaps.Goals as goal
 
 pub loop-region-preserved : goal.loop-region-preserved
@@ -12,5 +12,5 @@ loop-region-preserved c =
       each =
           subst P (sym {A = List State} c.in_ok-push.ensures.items)
           (each-push c.loop-region.heaps.items c.in_ok-new.field-0 c.loop-region.region c.loop-region.invariant.count c.loop-region.invariant.each
-          (record { region_is = c.in_ok-new.ensures.region; places = c.in_ok-new.ensures.empty; stands = c.in_ok-new.ensures.stands }));
+          (record { region_is = c.in_ok-new.ensures.region; states = c.in_ok-new.ensures.empty; stands = c.in_ok-new.ensures.stands }));
     }

@@ -1,6 +1,6 @@
 use Rattle.std.proofs.Common.{◌-◌, get_or, sym, subst}
 use Rattle.typed_heap.specs.Takes.{KnowsElements}
-use Rattle.region_heaps.proofs.Places.{heap_of-index, steps-from}
+use Rattle.region_heaps.proofs.ByRegion.{heap_of-index, steps-from}
 use Rattle.region_heaps.proofs.regions.step.Goals as goal
 
 pub step-requires-clause-elements : goal.step-requires-clause-elements

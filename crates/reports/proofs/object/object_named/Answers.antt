@@ -1,7 +1,7 @@
 use Rattle.std.proofs.Common.{Some, option_map, ap, sym, ◌∙◌}
 use Rattle.heap_model.specs.Answers.{is_at}
 use Rattle.reports.specs.Objects.{object_named}
-use Rattle.reports.specs.Meant.{slot_meant, name_of}
+use Rattle.reports.specs.Meant.{slot_name, name_of}
 use Rattle.reports.proofs.Named.{named_nowhere, named_by, found_here, not_here}
 use Rattle.reports.proofs.object.object_named.Goals as goal
 
@@ -12,17 +12,17 @@ returns-in_err-slot c =
 
 pub loop-at-init : goal.loop-at-init
 loop-at-init c =
-    named_by c.args.history.now.entries c.args.anchor c.args.word c.version_of-version.result (slot_meant c.in_ok-slot.slot)
+    named_by c.args.history.now.entries c.args.anchor c.args.word c.version_of-version.result (slot_name c.in_ok-slot.slot)
     (sym c.in_ok-slot.ensures) c.version_of-version.ensures
 
 pub returns-then-is_some : goal.returns-then-is_some
 returns-then-is_some c =
-    found_here (is_at (Some (slot_meant c.in_ok-slot.slot)) c.version_of-version.result) c.args.history.now.entries c.loop-at.at
-    c.get.result c.placed_as-found.result (object_named c.args.history.now.entries c.args.anchor c.args.word) c.get.ensures
-    c.loop-at.invariant c.placed_as-found.ensures (sym c.is_some.ensures ∙ c.if-is_some.true)
+    found_here (is_at (Some (slot_name c.in_ok-slot.slot)) c.version_of-version.result) c.args.history.now.entries c.loop-at.at
+    c.get.result c.object_in-found.result (object_named c.args.history.now.entries c.args.anchor c.args.word) c.get.ensures
+    c.loop-at.invariant c.object_in-found.ensures (sym c.is_some.ensures ∙ c.if-is_some.true)
 
 pub loop-at-preserved : goal.loop-at-preserved
 loop-at-preserved c =
-    not_here (is_at (Some (slot_meant c.in_ok-slot.slot)) c.version_of-version.result) c.args.history.now.entries c.loop-at.at
-    c.get.result c.placed_as-found.result (object_named c.args.history.now.entries c.args.anchor c.args.word) c.get.ensures
-    c.loop-at.invariant c.placed_as-found.ensures (sym c.is_some.ensures ∙ c.if-is_some.false)
+    not_here (is_at (Some (slot_name c.in_ok-slot.slot)) c.version_of-version.result) c.args.history.now.entries c.loop-at.at
+    c.get.result c.object_in-found.result (object_named c.args.history.now.entries c.args.anchor c.args.word) c.get.ensures
+    c.loop-at.invariant c.object_in-found.ensures (sym c.is_some.ensures ∙ c.if-is_some.false)

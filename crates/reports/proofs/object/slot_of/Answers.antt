@@ -1,11 +1,11 @@
 use Rattle.std.proofs.Common.{ap, sym, ◌∙◌, option_map}
-use Rattle.reports.specs.Meant.{slot_meant}
+use Rattle.reports.specs.Meant.{slot_name}
 use Rattle.reports.proofs.Slots.{in_regions, no_region, slot_is}
 use Rattle.reports.proofs.object.slot_of.Goals as goal
 
 pub returns-in_err-region : goal.returns-in_err-region
 returns-in_err-region c =
-    ap (option_map slot_meant) c.from_residual.ensures
+    ap (option_map slot_name) c.from_residual.ensures
     ∙ sym (no_region c.args.address (sym c.region_of.ensures.value ∙ c.in_err-region.was))
 
 pub invariant_of-result : goal.invariant_of-result

@@ -10,7 +10,7 @@ use Rattle.region_heaps.specs.Kept.{Keeps}
 use Rattle.region_heaps.specs.Numbers.{count_of}
 use Rattle.region_heaps.specs.Regions.{Steps, heap_of}
 use Rattle.region_heaps.proofs.Keeping.{Keeps-push}
-use Rattle.region_heaps.proofs.Places.{region_for-range}
+use Rattle.region_heaps.proofs.ByRegion.{region_for-range}
 use Rattle.region_heaps.proofs.Pushed.{own-le}
 use Rattle.region_heaps.proofs.heaps.RegionHeaps.call.Goals as goal
 

@@ -5,12 +5,12 @@ use Rattle.std.proofs.lemmas.Result.{err_from_is_err_and}
 use Rattle.plain_meaning.specs.declared.scalar.Scalar.TheVariants.{Pointer}
 use Rattle.plain_meaning.specs.declared.scalar.CheckedPointer.{CheckedPointer}
 use Rattle.plain_meaning.specs.declared.tree.Expression.TheVariants as e
-use Rattle.plain_meaning.specs.Points.{moved_by}
+use Rattle.plain_meaning.specs.Points.{shift}
 use Rattle.plain_meaning.specs.Values.{operate, size_of}
 use Rattle.plain_meaning.specs.Meaning.{element, expression}
 use Rattle.tree_walk.specs.Steps.{itself}
 use Rattle.tree_walk.proofs.Passing.{passes_on, in_words, to_words, stops}
-use Rattle.tree_walk.proofs.Operands.{after_right, after_left, binary_begins, after_place, element_begins, after_index, base_of, base_passes, move_passes}
+use Rattle.tree_walk.proofs.Operands.{after_right, after_left, binary_begins, after_lvalue, element_begins, after_index, base_of, base_passes, move_passes}
 use Rattle.tree_walk.proofs.walk.Walk.+values.Goals as goal
 
 pub element-returns-in_err-count-clause-leads : goal.element-returns-in_err-count-clause-leads
@@ -31,12 +31,12 @@ element-returns-clause-leads t c = λ next.
     let pointer = c.args.pointer in
     let base = base_of walk pointer in
     let i = c.in_ok-count.count in
-    let same : c.moved.result ≡ moved_by base i (size_of pointer.target) =
-    c.moved.ensures ∙ ap (λ b. moved_by b (cast_signed w32 (cast_unsigned w32 i)) c.size_of.result) c.pointer-base.ensures
-    ∙ ap (λ n. moved_by base n c.size_of.result) (to_z-of_z w32 i (search rules)) ∙ ap (λ s. moved_by base i s) c.size_of.ensures.value in
+    let same : c.shift.result ≡ shift base i (size_of pointer.target) =
+    c.shift.ensures ∙ ap (λ b. shift b (cast_signed w32 (cast_unsigned w32 i)) c.size_of.result) c.pointer-base.ensures
+    ∙ ap (λ n. shift base n c.size_of.result) (to_z-of_z w32 i (search rules)) ∙ ap (λ s. shift base i s) c.size_of.ensures.value in
     passes_on (base_passes walk line pointer c.args.index.now next)
     (passes_on ((c.in_ok-count.ensures {u = tt}).leads (after_index line pointer base next))
-    (to_words (next (Pointer c.moved.result)) (ap (λ q. next (Pointer q)) (sym same)) (move_passes c.value.new.self line pointer base i next)))
+    (to_words (next (Pointer c.shift.result)) (ap (λ q. next (Pointer q)) (sym same)) (move_passes c.value.new.self line pointer base i next)))
 
 pub value-returns-in_err-a-in-Binary-clause-leads : goal.value-returns-in_err-a-in-Binary-clause-leads
 value-returns-in_err-a-in-Binary-clause-leads t c =
@@ -100,9 +100,9 @@ value-returns-in_ok-b-in-Binary-clause-leads t c = λ next.
     (to_words (next (cast_signed w32 (cast_unsigned w32 r))) (ap next (sym same ∙ sym (to_z-of_z w32 r (search rules))))
     ((c.in_ok-b-in-Binary.ensures {u = tt}).leads (after_right operator a next)))))
 
-pub value-returns-in_err-place-in-Element-clause-leads : goal.value-returns-in_err-place-in-Element-clause-leads
-value-returns-in_err-place-in-Element-clause-leads t c =
-    let p = err_from_is_err_and c.from_residual-in_err-place-in-Element.result c.from_residual-in_err-place-in-Element.ensures.1 in
+pub value-returns-in_err-lvalue-in-Element-clause-leads : goal.value-returns-in_err-lvalue-in-Element-clause-leads
+value-returns-in_err-lvalue-in-Element-clause-leads t c =
+    let p = err_from_is_err_and c.from_residual-in_err-lvalue-in-Element.result c.from_residual-in_err-lvalue-in-Element.ensures.1 in
     let walk = c.args.self.now in
     let line = c.args.line in
     let pointer = c.in-Element.pointer in
@@ -110,8 +110,8 @@ value-returns-in_err-place-in-Element-clause-leads t c =
     let is = c.in-Element.is ∙ ap (e.Element pointer) (sym c.get-in-Element.ensures) in
     rw (p.1, p.2)
     (stops {A = ℤ} walk walk c.element.new.self (expression line c.args.expression.now walk.variables.items) itself
-    (element line pointer (expression line index) walk.variables.items) Pointer c.in_err-place-in-Element.field-0.0
-    (λ next. (after_place line pointer next, element_begins walk line c.args.expression.now pointer index is next)) (c.in_err-place-in-Element.ensures {u = tt}).leads)
+    (element line pointer (expression line index) walk.variables.items) Pointer c.in_err-lvalue-in-Element.field-0.0
+    (λ next. (after_lvalue line pointer next, element_begins walk line c.args.expression.now pointer index is next)) (c.in_err-lvalue-in-Element.ensures {u = tt}).leads)
 
 pub value-returns-in_err-value-in-Element-clause-leads : goal.value-returns-in_err-value-in-Element-clause-leads
 value-returns-in_err-value-in-Element-clause-leads t c =
@@ -121,14 +121,14 @@ value-returns-in_err-value-in-Element-clause-leads t c =
     let pointer = c.in-Element.pointer in
     let index = c.get-in-Element.result.now in
     let is = c.in-Element.is ∙ ap (e.Element pointer) (sym c.get-in-Element.ensures) in
-    let place = c.in_ok-place-in-Element.place in
+    let lvalue = c.in_ok-lvalue-in-Element.lvalue in
     rw (p.1, p.2)
     (stops {A = ℤ} walk c.element.new.self c.load.new.self (expression line c.args.expression.now walk.variables.items) itself
-    (λ next. after_place line pointer next (Pointer place)) itself c.in_err-value-in-Element.field-0.0
+    (λ next. after_lvalue line pointer next (Pointer lvalue)) itself c.in_err-value-in-Element.field-0.0
     (λ next. (
       next,
       passes_on (element_begins walk line c.args.expression.now pointer index is next)
-          ((c.in_ok-place-in-Element.ensures {u = tt}).leads (after_place line pointer next)),
+          ((c.in_ok-lvalue-in-Element.ensures {u = tt}).leads (after_lvalue line pointer next)),
     )) (c.in_err-value-in-Element.ensures {u = tt}).leads)
 
 pub value-returns-in_ok-value-in-Element-clause-leads : goal.value-returns-in_ok-value-in-Element-clause-leads
@@ -140,6 +140,6 @@ value-returns-in_ok-value-in-Element-clause-leads t c = λ next.
     let is = c.in-Element.is ∙ ap (e.Element pointer) (sym c.get-in-Element.ensures) in
     let v = c.in_ok-value-in-Element.value in
     passes_on (element_begins walk line c.args.expression.now pointer index is next)
-    (passes_on ((c.in_ok-place-in-Element.ensures {u = tt}).leads (after_place line pointer next))
+    (passes_on ((c.in_ok-lvalue-in-Element.ensures {u = tt}).leads (after_lvalue line pointer next))
     (to_words (next (cast_signed w32 (cast_unsigned w32 v))) (ap next (sym (to_z-of_z w32 v (search rules))))
     ((c.in_ok-value-in-Element.ensures {u = tt}).leads next)))

@@ -9,11 +9,11 @@ use Rattle.plain_meaning.specs.declared.scalar.Scalar.{Scalar}
 use Rattle.plain_meaning.specs.declared.scalar.Scalar.TheVariants.{Pointer}
 use Rattle.plain_meaning.specs.declared.scalar.CheckedPointer.{CheckedPointer}
 use Rattle.plain_meaning.specs.Tree.{Convert, Stop, Turn, Point}
-use Rattle.plain_meaning.specs.Points.{Ask, Asking, checked, checked_told}
+use Rattle.plain_meaning.specs.Points.{Ask, Asking, checked_point, checked_next}
 use Rattle.plain_meaning.specs.Values.{zero_of, type_of}
 use Rattle.tree_walk.specs.Steps.{Events, no_value, onward}
 use Rattle.tree_walk.proofs.Passing.{nothing, passes_on, to_words, stops, ask_stops}
-use Rattle.tree_walk.proofs.Places.{has_size, conversion_escapes, conversion_of_null, asks_check}
+use Rattle.tree_walk.proofs.PointerActions.{has_size, conversion_escapes, conversion_of_null, asks_check}
 use Rattle.tree_walk.proofs.walk.Walk.cast.Goals as goal
 
 abbrev converts : ℕ → Target → CheckedPointer → (Scalar CheckedPointer → Events) → Events
@@ -48,8 +48,8 @@ pub ask-requires-clause-types : goal.ask-requires-clause-types
 ask-requires-clause-types c = subst (HasSize basic_types) (sym c.type_of.ensures) (has_size c.args.target)
 
 abbrev asks_it : (line : ℕ) (target : Target) (p : CheckedPointer) (want : ℕ) → want ≡ type_of target →
-    checked tt line (Convert (type_of target)) (Pointer p) zero_of ≡ Ask (call.Check p.word (type_of target)) →
-    checked tt line (Convert (type_of target)) (Pointer p) zero_of ≡ Ask (call.Check p.word want)
+    checked_point tt line (Convert (type_of target)) (Pointer p) zero_of ≡ Ask (call.Check p.word (type_of target)) →
+    checked_point tt line (Convert (type_of target)) (Pointer p) zero_of ≡ Ask (call.Check p.word want)
 asks_it line target p want is asks = asks ∙ ap (λ w. let x : Asking = Ask (call.Check p.word w) in x) (sym is)
 
 pub returns-in_err-reach-clause-leads : goal.returns-in_err-reach-clause-leads
@@ -76,7 +76,7 @@ returns-clause-leads c = λ next.
     let target = c.args.target in
     let pointer = c.args.pointer in
     let here = c.turn.new.self in
-    let told = checked_told tt line (Convert (type_of target)) (Pointer pointer) zero_of in
+    let told = checked_next tt line (Convert (type_of target)) (Pointer pointer) zero_of in
     passes_on ((c.in_ok-turn.ensures {u = tt}).leads (λ x. converts line target pointer next))
     (to_words (next (Pointer (record { word = pointer.word; reach = c.in-Found.reach }))) (ap (λ r. onward next (told r)) c.in-Found.is)
     ((c.in_ok-reach.ensures {u = tt}).asked (Convert (type_of target)) (Pointer pointer) zero_of next

@@ -5,7 +5,7 @@ use Rattle.plain_meaning.specs.declared.scalar.Scalar.TheVariants.{Pointer}
 use Rattle.plain_meaning.specs.declared.scalar.CheckedPointer.{CheckedPointer}
 use Rattle.plain_meaning.specs.declared.tree.Statement.TheVariants as s
 use Rattle.plain_meaning.specs.Values.{Variables}
-use Rattle.plain_meaning.specs.Meaning.{allocated, statement}
+use Rattle.plain_meaning.specs.Meaning.{allocation, statement}
 use Rattle.plain_meaning.proofs.Equations as equation
 use Rattle.tree_walk.specs.Steps.{Events}
 use Rattle.tree_walk.proofs.Passing.{passes_on, stops, begin, settles}
@@ -21,7 +21,7 @@ returns-in_err-pointer-clause-walks c =
     let line = c.args.line in
     rw (p.1, p.2) (λ n le.
     stops {A = Unit {0}} {B = Variables CheckedPointer} walk walk c.allocate.new.self (statement n (s.Allocation line c.args.target c.args.size) walk.variables.items) (λ done. c.allocate.new.self.variables.items)
-    (allocated line c.args.target c.args.size) Pointer c.in_err-pointer.field-0.0
+    (allocation line c.args.target c.args.size) Pointer c.in_err-pointer.field-0.0
     (λ next. (after walk.variables.items next, begin walk (equation.statement_allocation n line c.args.target c.args.size walk.variables.items next)))
     (c.in_err-pointer.ensures {u = tt}).leads)
 

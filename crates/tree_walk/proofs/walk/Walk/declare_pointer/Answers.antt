@@ -5,7 +5,7 @@ use Rattle.plain_meaning.specs.declared.scalar.Scalar.{Scalar}
 use Rattle.plain_meaning.specs.declared.scalar.Scalar.TheVariants.{Pointer}
 use Rattle.plain_meaning.specs.declared.scalar.CheckedPointer.{CheckedPointer}
 use Rattle.plain_meaning.specs.declared.tree.Target.{Target}
-use Rattle.plain_meaning.specs.declared.tree.Pointer.{Pointer as Named}
+use Rattle.plain_meaning.specs.declared.tree.Pointer.{Pointer as PointerVariable}
 use Rattle.plain_meaning.specs.declared.tree.Statement.TheVariants as s
 use Rattle.plain_meaning.specs.Tree.{Convert, Turn, Point}
 use Rattle.plain_meaning.specs.Points.{pointer_of, null}
@@ -15,14 +15,14 @@ use Rattle.plain_meaning.proofs.Equations as equation
 use Rattle.tree_walk.specs.declared.walk.Walk.{Walk}
 use Rattle.tree_walk.specs.Steps.{Events, Passes}
 use Rattle.tree_walk.proofs.Passing.{passes_on, stops, begin, settles}
-use Rattle.tree_walk.proofs.Places.{null_passes}
+use Rattle.tree_walk.proofs.PointerActions.{null_passes}
 use Rattle.tree_walk.proofs.Declared.{last_set, cast_begins}
 use Rattle.tree_walk.proofs.walk.Walk.declare_pointer.Goals as goal
 
 abbrev after : Variables CheckedPointer → (Variables CheckedPointer → Events) → Scalar CheckedPointer → Events
 after variables next p = next (variables ++ p ∷ [])
 
-abbrev begins : (walk pushed : Walk) (n line : ℕ) (target : Target) (source : Named) (q : CheckedPointer) → pushed ≡ record walk { variables = pushed.variables } →
+abbrev begins : (walk pushed : Walk) (n line : ℕ) (target : Target) (source : PointerVariable) (q : CheckedPointer) → pushed ≡ record walk { variables = pushed.variables } →
     walk.variables.items ++ Pointer null ∷ [] ≡ pushed.variables.items → q ≡ pointer_of (slice_index_or pushed.variables.items source.variable zero_of) →
     (next : Variables CheckedPointer → Events) →
     Passes walk (statement n (s.PointerDeclaration line target source) walk.variables.items next) pushed

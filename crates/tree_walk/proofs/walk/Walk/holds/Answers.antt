@@ -4,7 +4,7 @@ use Rattle.std.proofs.lemmas.Int.{to_z-of_z}
 use Rattle.std.proofs.lemmas.Result.{err_from_is_err_and}
 use Rattle.plain_meaning.specs.Values.{is_true}
 use Rattle.plain_meaning.specs.Meaning.{expression}
-use Rattle.tree_walk.specs.Steps.{Events, itself, tested}
+use Rattle.tree_walk.specs.Steps.{Events, itself, test_of}
 use Rattle.tree_walk.proofs.Passing.{nothing, to_words, stops}
 use Rattle.tree_walk.proofs.walk.Walk.holds.Goals as goal
 
@@ -17,7 +17,7 @@ returns-in_err-value-clause-leads c =
     let walk = c.args.self.now in
     let line = c.args.line in
     rw (p.1, p.2)
-    (stops {A = Bool} {B = Bool} {C = ℤ} {D = ℤ} walk walk c.value.new.self (tested line c.args.test.now walk.variables.items) itself
+    (stops {A = Bool} {B = Bool} {C = ℤ} {D = ℤ} walk walk c.value.new.self (test_of line c.args.test.now walk.variables.items) itself
     (expression line c.args.test.now walk.variables.items) itself c.in_err-value.field-0.0
     (λ next. (after next, nothing walk (expression line c.args.test.now walk.variables.items (after next)))) (c.in_err-value.ensures {u = tt}).leads)
 

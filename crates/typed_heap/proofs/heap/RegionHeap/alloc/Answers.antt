@@ -4,11 +4,11 @@ use Rattle.heap_model.specs.Legal.{AllocAnswers}
 use Rattle.heap_model.specs.Answers.{next}
 use Rattle.heap_model.specs.Regions.{address_of, version_of, slot_of, slot_address, slots}
 use Rattle.heap_model.specs.Cells.{zeros}
-use Rattle.typed_heap.specs.Naming.{slot_in}
-use Rattle.heap_model.specs.State.{State, StandsFor, live_places, all_versions}
+use Rattle.typed_heap.specs.Naming.{nth_slot}
+use Rattle.heap_model.specs.State.{State, StandsFor, live_objects, all_versions}
 use Rattle.heap_model.specs.declared.calls.Call.TheVariants.{Alloc}
 use Rattle.heap_model.specs.declared.calls.Reply.TheVariants.{Placed}
-use Rattle.typed_heap.specs.Places.{place_at, live_in, with_object}
+use Rattle.typed_heap.specs.SlotStates.{state_at, count_live, with_object}
 use Rattle.typed_heap.specs.Takes.{KnowsElements}
 use Rattle.typed_heap.specs.View.{cells}
 use Rattle.typed_heap.proofs.Standing.{few-slots}
@@ -21,25 +21,25 @@ abbrev object : In_ok-slot → Body ℕ
 object c = record { elem = c.args.elem; fixed = c.args.fixed; cells = cells c.in_ok-bytes.bytes.items }
 
 -- the heap as it is then
-after : (c : In_ok-slot) → ◌≡◌ {A = State} (record { region = c.self.inside.region; places = c.take.new.self })
-    (record { region = c.args.self.now.region; places = with_object c.args.self.now.places c.in_ok-slot.slot (object c) })
+after : (c : In_ok-slot) → ◌≡◌ {A = State} (record { region = c.self.inside.region; states = c.take.new.self })
+    (record { region = c.args.self.now.region; states = with_object c.args.self.now.states c.in_ok-slot.slot (object c) })
 after c =
-    ap (λ places. record { region = c.self.inside.region; places = places }) c.in_ok-slot.ensures.placed
-    ∙ ap (λ (st : State). record { region = st.region; places = with_object st.places c.in_ok-slot.slot (object c) }) c.self.view_is
+    ap (λ states. record { region = c.self.inside.region; states = states }) c.in_ok-slot.ensures.placed
+    ∙ ap (λ (st : State). record { region = st.region; states = with_object st.states c.in_ok-slot.slot (object c) }) c.self.view_is
 
-inside : (c : In_ok-slot) → c.in_ok-slot.slot ≤ length c.args.self.now.places
-inside c = omega (arith, c.in_ok-slot.ensures.next, ap (λ (st : State). length st.places) c.self.view_is)
+inside : (c : In_ok-slot) → c.in_ok-slot.slot ≤ length c.args.self.now.states
+inside c = omega (arith, c.in_ok-slot.ensures.next, ap (λ (st : State). length st.states) c.self.view_is)
 
-free : (c : In_ok-slot) → (place_at c.args.self.now.places c.in_ok-slot.slot).body ≡ None
-free c = ap (λ (st : State). (place_at st.places c.in_ok-slot.slot).body) (sym c.self.view_is) ∙ c.in_ok-slot.ensures.free
+free : (c : In_ok-slot) → (state_at c.args.self.now.states c.in_ok-slot.slot).body ≡ None
+free c = ap (λ (st : State). (state_at st.states c.in_ok-slot.slot).body) (sym c.self.view_is) ∙ c.in_ok-slot.ensures.free
 
 -- what a word says that has the slot's address and version
-there : (c : In_ok-slot) (word : ℕ) → slot_of (address_of word) ≡ Some (record { region = c.self.inside.region; number = c.in_ok-slot.slot }) → slot_of (address_of word) ≡ Some (slot_in c.args.self.now c.in_ok-slot.slot)
-there c word e = e ∙ ap (λ (st : State). Some (slot_in st c.in_ok-slot.slot)) c.self.view_is
+there : (c : In_ok-slot) (word : ℕ) → slot_of (address_of word) ≡ Some (record { region = c.self.inside.region; number = c.in_ok-slot.slot }) → slot_of (address_of word) ≡ Some (nth_slot c.args.self.now c.in_ok-slot.slot)
+there c word e = e ∙ ap (λ (st : State). Some (nth_slot st c.in_ok-slot.slot)) c.self.view_is
 
-version : (c : In_ok-slot) (word : ℕ) → version_of word ≡ (place_at c.take.new.self c.in_ok-slot.slot).versions → version_of word ≡ 1 + (place_at c.args.self.now.places c.in_ok-slot.slot).versions
+version : (c : In_ok-slot) (word : ℕ) → version_of word ≡ (state_at c.take.new.self c.in_ok-slot.slot).versions → version_of word ≡ 1 + (state_at c.args.self.now.states c.in_ok-slot.slot).versions
 version c word e =
-    e ∙ ap (λ (st : State). (place_at st.places c.in_ok-slot.slot).versions) (after c) ∙ version-after c.args.self.now c.in_ok-slot.slot (object c) (inside c)
+    e ∙ ap (λ (st : State). (state_at st.states c.in_ok-slot.slot).versions) (after c) ∙ version-after c.args.self.now c.in_ok-slot.slot (object c) (inside c)
 
 pub returns-then-is_full-clause-answers : goal.returns-then-is_full-clause-answers
 unfolding AllocAnswers
@@ -51,14 +51,14 @@ returns-then-is_full-clause-next c = λ worker number h stands. stands
 
 pub take-requires-clause-live : goal.take-requires-clause-live
 take-requires-clause-live c =
-    let other = not-full (live_places c.args.self.now) (slots c.args.self.now.region) (all_versions c.args.self.now == 2 ^ 24 - 1) (sym c.is_full.ensures ∙ c.if-is_full.false) in
-    let same : live_in c.self.inside.slots ≡ live_in c.args.self.now.places = ap (λ (st : State). live_in st.places) c.self.view_is in
+    let other = not-full (live_objects c.args.self.now) (slots c.args.self.now.region) (all_versions c.args.self.now == 2 ^ 24 - 1) (sym c.is_full.ensures ∙ c.if-is_full.false) in
+    let same : count_live c.self.inside.slots ≡ count_live c.args.self.now.states = ap (λ (st : State). count_live st.states) c.self.view_is in
     let region : slots c.self.inside.region ≡ slots c.args.self.now.region = ap (λ (st : State). slots st.region) c.self.view_is in
     omega (arith, other, same, region, live-few c.self.inside.slots, c.self.invariant.taken, few-slots c.self.inside.region)
 
 pub returns-in_err-slot-clause-elements : goal.returns-in_err-slot-clause-elements
 returns-in_err-slot-clause-elements c = λ types size known.
-    subst (λ (st : State). KnowsElements types st) (sym (ap (λ places. record { region = c.self.inside.region; places = places }) c.in_err-slot.ensures.unchanged ∙ c.self.view_is)) known
+    subst (λ (st : State). KnowsElements types st) (sym (ap (λ states. record { region = c.self.inside.region; states = states }) c.in_err-slot.ensures.unchanged ∙ c.self.view_is)) known
 
 pub returns-clause-answers : goal.returns-clause-answers
 unfolding AllocAnswers
@@ -66,7 +66,7 @@ returns-clause-answers c = λ h k.
     let at = (goal.at.returns-clause-answers c).In_ok-slot in (
       full-same c.args.self.now h k ∙ sym c.is_full.ensures ∙ c.if-is_full.false,
       may-place c.args.self.now c.in_ok-slot.slot (object at) c.word.result (free at) (inside at) (there at c.word.result c.word.ensures.slot) (version at c.word.result c.word.ensures.version)
-          (c.word.ensures.address ∙ ap (λ (st : State). slot_address (slot_in st c.in_ok-slot.slot) + 16) c.self.view_is) h k,
+          (c.word.ensures.address ∙ ap (λ (st : State). slot_address (nth_slot st c.in_ok-slot.slot) + 16) c.self.view_is) h k,
     )
 
 pub returns-clause-next : goal.returns-clause-next

@@ -5,7 +5,7 @@ use Rattle.heap_model.specs.Answers.{answer_by, check_reply, first_byte, offset}
 use Rattle.heap_model.specs.Preference.{preference_of}
 use Rattle.heap_model.specs.State.{live_by, dead_by}
 use Rattle.heap_model.specs.declared.calls.Call.TheVariants.{Check}
-use Rattle.typed_heap.specs.Naming.{slot_in}
+use Rattle.typed_heap.specs.Naming.{nth_slot}
 use Rattle.typed_heap.proofs.Standing.{live-named}
 use Rattle.typed_heap.proofs.Ending.{not-live}
 use Rattle.typed_heap.proofs.Freeing.{check-null, check-at, first-here, found-none, found-some}
@@ -28,8 +28,8 @@ asked c =
     c.in_ok-bounds.ensures.value c.in-Live.ensures.object c.in-Live.ensures.body
     ∙ ap (λ k. preference_of c.args.types.now c.in-Live.ensures.object.elem (length c.in-Live.ensures.object.cells) k c.args.want) (c.offset-offset.ensures.value ∙ ap (λ a. offset a c.args.p) c.address_of-2.ensures)
 
-pub named-requires : goal.named-requires
-named-requires c = not_null (goal.at.named-requires c).Else-version_of-eq0
+pub object_named-requires : goal.object_named-requires
+object_named-requires c = not_null (goal.at.object_named-requires c).Else-version_of-eq0
 
 pub returns-then-version_of-eq0-clause-answer : goal.returns-then-version_of-eq0-clause-answer
 returns-then-version_of-eq0-clause-answer c =
@@ -38,7 +38,7 @@ returns-then-version_of-eq0-clause-answer c =
 pub returns-in_default-clause-answer : goal.returns-in_default-clause-answer
 returns-in_default-clause-answer c =
     check-at (preference_of c.args.types.now) (live_by c.args.self.now) (dead_by c.args.self.now) c.args.p c.args.want (not_null (goal.at.returns-in_default-clause-answer c).Else-version_of-eq0) None
-    (ap (λ a. live_by c.args.self.now a c.args.p) (sym c.address_of.ensures) ∙ not-live c.args.self.now c.address_of.result c.args.p c.named.result c.named.ensures c.in_default.not-Live)
+    (ap (λ a. live_by c.args.self.now a c.args.p) (sym c.address_of.ensures) ∙ not-live c.args.self.now c.address_of.result c.args.p c.object_named.result c.object_named.ensures c.in_default.not-Live)
 
 pub returns-in_default-2-clause-answer : goal.returns-in_default-2-clause-answer
 returns-in_default-2-clause-answer c =
@@ -46,6 +46,6 @@ returns-in_default-2-clause-answer c =
 
 pub returns-clause-answer : goal.returns-clause-answer
 returns-clause-answer c =
-    let first = ap (λ a. a + 16) c.slot_address-first.ensures.value ∙ ap (λ st. slot_address (slot_in st c.in-Live.slot) + 16) c.self.view_is
+    let first = ap (λ a. a + 16) c.slot_address-first.ensures.value ∙ ap (λ st. slot_address (nth_slot st c.in-Live.slot) + 16) c.self.view_is
     ∙ sym (first-here c.args.self.now c.address_of.result c.in-Live.slot c.in-Live.ensures.at) ∙ ap first_byte c.address_of.ensures in
     found-some (first_byte (address_of c.args.p)) _ _ c.in-Some.bounds first (sym (asked (goal.at.returns-clause-answer c).In_ok-bounds) ∙ c.in-Some.is) ∙ told (goal.at.returns-clause-answer c).In-Live

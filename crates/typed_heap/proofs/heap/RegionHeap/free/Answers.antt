@@ -5,7 +5,7 @@ use Rattle.heap_model.specs.Answers.{next}
 use Rattle.heap_model.specs.State.{StandsFor, live_by, dead_by}
 use Rattle.heap_model.specs.declared.calls.Call.TheVariants.{Free}
 use Rattle.heap_model.specs.declared.calls.Reply.TheVariants.{Done}
-use Rattle.typed_heap.specs.Places.{place_at}
+use Rattle.typed_heap.specs.SlotStates.{state_at}
 use Rattle.typed_heap.proofs.Standing.{live-named}
 use Rattle.typed_heap.proofs.Freeing.{free-zero, free-null, free-at, null-frees-nothing}
 use Rattle.typed_heap.proofs.heap.RegionHeap.free.Goals as goal
@@ -14,8 +14,8 @@ use Rattle.typed_heap.proofs.heap.RegionHeap.free.Goals.{Else-version_of-eq0}
 not_null : (c : Else-version_of-eq0) → (version_of c.args.p == 0) ≡ false
 not_null c = ne_eqb _ _ (λ e. c.if-version_of-eq0.false (c.version_of.ensures ∙ e))
 
-pub named-requires : goal.named-requires
-named-requires c = not_null (goal.at.named-requires c).Else-version_of-eq0
+pub object_named-requires : goal.object_named-requires
+object_named-requires c = not_null (goal.at.object_named-requires c).Else-version_of-eq0
 
 pub returns-then-p-eq0-clause-answer : goal.returns-then-p-eq0-clause-answer
 returns-then-p-eq0-clause-answer c = λ preferred. free-zero preferred (live_by c.args.self.now) (dead_by c.args.self.now) c.args.p c.args.fixed c.if-p-eq0.true
@@ -55,5 +55,5 @@ pub returns-in-Live-clause-answer : goal.returns-in-Live-clause-answer
 returns-in-Live-clause-answer c = λ preferred.
     c.free_of_live.ensures.answer (dead_by c.args.self.now (address_of c.args.p) c.args.p)
     ∙ free-at preferred (live_by c.args.self.now) (dead_by c.args.self.now) c.args.p c.args.fixed c.if-p-eq0.false (not_null (goal.at.returns-in-Live-clause-answer c).Else-version_of-eq0)
-    (place_at c.args.self.now.places c.in-Live.slot).body (dead_by c.args.self.now (address_of c.args.p) c.args.p)
+    (state_at c.args.self.now.states c.in-Live.slot).body (dead_by c.args.self.now (address_of c.args.p) c.args.p)
     (ap (λ a. live_by c.args.self.now a c.args.p) (sym c.address_of.ensures) ∙ live-named c.args.self.now c.address_of.result c.args.p c.in-Live.slot c.in-Live.ensures ∙ sym c.in-Live.ensures.body) refl

@@ -1,20 +1,20 @@
 use Rattle.std.proofs.Common.{◌≡◌, ◌∙◌, set, sym, ap, subst}
 use Rattle.heap_model.specs.Regions.{address_of}
-use Rattle.heap_model.specs.Heap.{with_died}
+use Rattle.heap_model.specs.Heap.{with_dead}
 use Rattle.heap_model.specs.Answers.{names, next}
 use Rattle.heap_model.specs.State.{State, StandsFor}
-use Rattle.typed_heap.specs.Places.{place_at, without_object}
+use Rattle.typed_heap.specs.SlotStates.{state_at, without_object}
 use Rattle.typed_heap.specs.Takes.{KnowsElements}
 use Rattle.typed_heap.proofs.Ending.{died-stands, elements-without}
 use Rattle.typed_heap.proofs.heap.RegionHeap.free_of_live.Goals as goal
 use Rattle.typed_heap.proofs.heap.RegionHeap.free_of_live.Goals.{After-release}
 
 -- the heap as it is then
-after : (c : After-release) → ◌≡◌ {A = State} (record { region = c.self.inside.region; places = c.release.new.self })
-    (record { region = c.args.self.now.region; places = set c.args.self.now.places c.args.slot (without_object (place_at c.args.self.now.places c.args.slot)) })
+after : (c : After-release) → ◌≡◌ {A = State} (record { region = c.self.inside.region; states = c.release.new.self })
+    (record { region = c.args.self.now.region; states = set c.args.self.now.states c.args.slot (without_object (state_at c.args.self.now.states c.args.slot)) })
 after c =
-    ap (λ places. record { region = c.self.inside.region; places = places }) c.release.ensures
-    ∙ ap (λ (st : State). record { region = st.region; places = set st.places c.args.slot (without_object (place_at st.places c.args.slot)) }) c.self.view_is
+    ap (λ states. record { region = c.self.inside.region; states = states }) c.release.ensures
+    ∙ ap (λ (st : State). record { region = st.region; states = set st.states c.args.slot (without_object (state_at st.states c.args.slot)) }) c.self.view_is
 
 pub returns-then-offset-ne0-clause-next : goal.returns-then-offset-ne0-clause-next
 unfolding next
@@ -27,7 +27,7 @@ returns-then-is_fixed-fixed-clause-next c = λ worker number h stands. stands
 pub returns-clause-next : goal.returns-clause-next
 unfolding next
 returns-clause-next c = λ worker number h stands.
-    subst (λ (st : State). StandsFor st (with_died (names (address_of c.args.p) c.args.p) h)) (sym (after (goal.at.returns-clause-next c).After-release))
+    subst (λ (st : State). StandsFor st (with_dead (names (address_of c.args.p) c.args.p) h)) (sym (after (goal.at.returns-clause-next c).After-release))
     (died-stands c.args.self.now h stands (address_of c.args.p) c.args.p c.args.slot c.requires.named c.requires.version)
 
 pub returns-clause-elements : goal.returns-clause-elements

@@ -1,6 +1,6 @@
 use Rattle.std.proofs.Common.{◌∙◌, sym, ap, arith}
 use Rattle.c_types.specs.Table.{HasSize, shape_of}
-use Rattle.typed_heap.specs.Places.{place_at}
+use Rattle.typed_heap.specs.SlotStates.{state_at}
 use Rattle.typed_heap.specs.View.{body}
 use Rattle.typed_heap.proofs.Bounded.{bounds-small}
 use Rattle.typed_heap.proofs.heap.RegionHeap.preferred.Goals as goal
@@ -8,7 +8,7 @@ use Rattle.typed_heap.proofs.heap.RegionHeap.preferred.Goals.{In-Some}
 
 known : (c : In-Some) → HasSize c.args.types.now c.in-Some.object.now.elem
 known c =
-    c.requires.elements c.args.slot (body c.in-Some.object.now) (ap (λ st. (place_at st.places c.args.slot).body) (sym c.self.view_is) ∙ sym c.in-Some.ensures)
+    c.requires.elements c.args.slot (body c.in-Some.object.now) (ap (λ st. (state_at st.states c.args.slot).body) (sym c.self.view_is) ∙ sym c.in-Some.ensures)
 
 pub runs-requires : goal.runs-requires
 runs-requires c = known (goal.at.runs-requires c).In-Some

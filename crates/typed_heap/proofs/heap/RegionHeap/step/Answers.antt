@@ -60,20 +60,20 @@ returns-in-Load-clause-next c = λ worker number h stands.
     subst (λ (call : Call). StandsFor c.args.self.now (next worker number h call c.load.result)) (sym c.in-Load.is) stands
 
 -- the call of a store, by its bits
-stored : (c : After-store) → ◌≡◌ {A = Call} (Store c.in-Store.p c.in-Store.reach c.in-Store.kind (record { bits = c.in-Store.value.bits; pointer = false })) c.args.call.now
-stored c =
+cells_after_store : (c : After-store) → ◌≡◌ {A = Call} (Store c.in-Store.p c.in-Store.reach c.in-Store.kind (record { bits = c.in-Store.value.bits; pointer = false })) c.args.call.now
+cells_after_store c =
     let number : is_number c.in-Store.kind ≡ true = subst (λ (call : Call). moves_numbers call ≡ true) c.in-Store.is c.requires.numbers in
     let may : may_store c.in-Store.kind c.in-Store.value ≡ true = subst (λ (call : Call). fits_call call ≡ true) c.in-Store.is c.requires.fits in
     ap (λ (v : Value). Store c.in-Store.p c.in-Store.reach c.in-Store.kind v) (plain-value c.in-Store.kind c.in-Store.value number may) ∙ sym c.in-Store.is
 
 pub returns-in-Store-clause-answers : goal.returns-in-Store-clause-answers
 returns-in-Store-clause-answers c = λ h stands.
-    subst (λ (call : Call). Answers (preference_of c.args.types.now) h c.args.self.now.region call c.store.result) (stored (goal.at.returns-in-Store-clause-answers c).After-store)
+    subst (λ (call : Call). Answers (preference_of c.args.types.now) h c.args.self.now.region call c.store.result) (cells_after_store (goal.at.returns-in-Store-clause-answers c).After-store)
     (store-answers (preference_of c.args.types.now) c.args.self.now h stands c.args.self.now.region c.store.result c.in-Store.p c.in-Store.reach c.in-Store.kind c.in-Store.value.bits c.store.ensures.answer)
 
 pub returns-in-Store-clause-next : goal.returns-in-Store-clause-next
 returns-in-Store-clause-next c = λ worker number h stands.
-    subst (λ (call : Call). StandsFor c.store.new.self (next worker number h call c.store.result)) (stored (goal.at.returns-in-Store-clause-next c).After-store) (c.store.ensures.next worker number h stands)
+    subst (λ (call : Call). StandsFor c.store.new.self (next worker number h call c.store.result)) (cells_after_store (goal.at.returns-in-Store-clause-next c).After-store) (c.store.ensures.next worker number h stands)
 
 pub returns-in-Store-clause-elements : goal.returns-in-Store-clause-elements
 returns-in-Store-clause-elements c = c.store.ensures.elements c.args.types.now c.requires.elements

@@ -12,7 +12,7 @@ use std::alloc::{AllocError, Global};
 /// The first address that no word has, and the offsets' modulus.
 const ADDRESSES: i64 = 1 << 40;
 
-/// How far a word's address is behind the first byte of an object, or behind address 0, modulo 2^40.
+/// How far a word's address is past the first byte of an object, or past address 0, modulo 2^40.
 #[tactic(auto, using(crate::proofs::Distances::address_below, crate::proofs::Distances::offset_below))]
 fn distance(object: Option<Object>, word: u64) -> u64
     ensures exact { result ≡ spec.distance (option_map name_of object) word }
@@ -28,11 +28,11 @@ fn distance(object: Option<Object>, word: u64) -> u64
 fn offset(object: Option<Object>, word: u64) -> i64
     ensures { result ≡ spec.signed_offset (spec.distance (option_map name_of object) word) }
 {
-    let behind = distance(object, word) as i64;
-    if behind < ADDRESSES / 2 {
-        behind
+    let past = distance(object, word) as i64;
+    if past < ADDRESSES / 2 {
+        past
     } else {
-        behind - ADDRESSES
+        past - ADDRESSES
     }
 }
 
@@ -42,13 +42,13 @@ fn append_offset(
     object: Option<Object>,
     word: u64,
 ) -> Result<(), AllocError>
-    ensures { OnOk result (to.new ≡ to.old ++ spec.offset_shown (option_map name_of object) word) }
+    ensures { OnOk result (to.new ≡ to.old ++ spec.offset_text (option_map name_of object) word) }
 {
     to.append(offset(object, word).to_string(alloc)?.as_bytes())
 }
 
 fn append_object(alloc: Global, to: &mut Text, object: Option<Object>) -> Result<(), AllocError>
-    ensures { OnOk result (to.new ≡ to.old ++ spec.object_shown (option_map name_of object)) }
+    ensures { OnOk result (to.new ≡ to.old ++ spec.object_text (option_map name_of object)) }
 {
     match object {
         None => to.append(b"none"),
@@ -62,13 +62,13 @@ fn append_object(alloc: Global, to: &mut Text, object: Option<Object>) -> Result
 }
 
 /// Adds the object and the offset of a word's address in it.
-pub fn append_place(
+pub fn append_pointer(
     alloc: Global,
     to: &mut Text,
     object: Option<Object>,
     word: u64,
 ) -> Result<(), AllocError>
-    ensures { OnOk result (to.new ≡ to.old ++ spec.place_shown (option_map name_of object) word) }
+    ensures { OnOk result (to.new ≡ to.old ++ spec.pointer_text (option_map name_of object) word) }
 {
     append_object(alloc, to, object)?;
     to.append(b" offset ")?;
@@ -82,7 +82,7 @@ pub fn append_bounds(
     object: Option<Object>,
     reach: Reach,
 ) -> Result<(), AllocError>
-    ensures { OnOk result (to.new ≡ to.old ++ spec.bounds_shown (option_map name_of object) reach) }
+    ensures { OnOk result (to.new ≡ to.old ++ spec.bounds_text (option_map name_of object) reach) }
 {
     to.append(b" bounds ")?;
     append_offset(alloc, to, object, reach.lo)?;

@@ -3,7 +3,7 @@ use Rattle.std.proofs.Common.{◌≡◌, ℕ, ◌<◌, ◌≤◌, true, false, c
 use Rattle.std.specs.Prelude.{nat_le}
 use Rattle.std.proofs.lemmas.Bool.Decides.{nat_tests}
 use Rattle.c_types.specs.Table.{basic_types, HasSize, shape_of}
-use Rattle.heap_model.specs.Regions.{address_of, region_of}
+use Rattle.heap_model.specs.Regions.{max_object_bytes, address_of, region_of}
 use Rattle.heap_model.specs.Reaches.{may_escape, slot_bounds}
 use Rattle.heap_model.specs.Forms.{suits_alloc}
 use Rattle.heap_model.specs.declared.calls.Reply.{Reply}
@@ -16,10 +16,10 @@ use Rattle.plain_meaning.specs.declared.scalar.Scalar.{Scalar}
 use Rattle.plain_meaning.specs.declared.scalar.Scalar.TheVariants.{Number, Pointer}
 use Rattle.plain_meaning.specs.declared.scalar.CheckedPointer.{CheckedPointer}
 use Rattle.plain_meaning.specs.Tree.{Null, IsNull, Allocate, Free, Pass, Convert, Stop, Point}
-use Rattle.plain_meaning.specs.Points.{Go, Halt, Now, Ask, Asking, null, is_null, bit, escape, reported, checked_for, checked, number_of, pointer_of}
+use Rattle.plain_meaning.specs.Points.{Go, Halt, Now, Ask, Asking, null, is_null, bit, escape, halt_with, check_for, checked_point, number_of, pointer_of}
 use Rattle.std.specs.Prelude.{pos, slice_index_or}
-use Rattle.plain_meaning.specs.Values.{Variables, zero_of, is_true, type_of, largest}
-use Rattle.plain_meaning.specs.Meaning.{pointer, pointer_in, heap_call, allocated, released}
+use Rattle.plain_meaning.specs.Values.{Variables, zero_of, is_true, type_of}
+use Rattle.plain_meaning.specs.Meaning.{pointer, pointer_in, heap_call, allocation, release}
 use Rattle.tree_walk.specs.declared.walk.Walk.{Walk}
 use Rattle.tree_walk.specs.Steps.{Events, Passes, IsAbout}
 use Rattle.tree_walk.proofs.Passing.{nothing, passes_on, in_words, passed}
@@ -40,19 +40,19 @@ pointer_passes walk line variables x f = in_variable walk line (slice_index_or v
 
 -- ---- allocations
 
-pub too_large : (walk : Walk) (line : ℕ) (target : Target) (size : ℕ) (f : Scalar CheckedPointer → Events) → largest < size →
-    Passes walk (allocated line target size f) walk (f (Pointer null))
+pub too_large : (walk : Walk) (line : ℕ) (target : Target) (size : ℕ) (f : Scalar CheckedPointer → Events) → max_object_bytes < size →
+    Passes walk (allocation line target size f) walk (f (Pointer null))
 too_large walk line target size f over =
-    let no : nat_le size largest ≡ false = grind (arith, nat_tests) in
-    in_words (allocated line target size f)
+    let no : nat_le size max_object_bytes ≡ false = grind (arith, nat_tests) in
+    in_words (allocation line target size f)
     (ap (λ b. cond b (heap_call line (Allocate (type_of target)) (Number (pos size)) zero_of f) (Point line Null zero_of zero_of f)) no)
     (null_passes walk line f)
 
-pub with_room : (walk : Walk) (line : ℕ) (target : Target) (size : ℕ) (f : Scalar CheckedPointer → Events) → size ≤ largest →
-    Passes walk (allocated line target size f) walk (heap_call line (Allocate (type_of target)) (Number (pos size)) zero_of f)
+pub with_room : (walk : Walk) (line : ℕ) (target : Target) (size : ℕ) (f : Scalar CheckedPointer → Events) → size ≤ max_object_bytes →
+    Passes walk (allocation line target size f) walk (heap_call line (Allocate (type_of target)) (Number (pos size)) zero_of f)
 with_room walk line target size f fits =
-    let yes : nat_le size largest ≡ true = grind (arith, nat_tests) in
-    in_words (allocated line target size f)
+    let yes : nat_le size max_object_bytes ≡ true = grind (arith, nat_tests) in
+    in_words (allocation line target size f)
     (ap (λ b. cond b (heap_call line (Allocate (type_of target)) (Number (pos size)) zero_of f) (Point line Null zero_of zero_of f)) yes)
     (nothing walk (heap_call line (Allocate (type_of target)) (Number (pos size)) zero_of f))
 
@@ -60,53 +60,53 @@ with_room walk line target size f fits =
 
 module _ (walk : Walk) (line : ℕ) (p : CheckedPointer) where
   out_of_reach : Asking → Asking
-  out_of_reach answer = Now (reported (escape line p) tt)
+  out_of_reach answer = Now (halt_with (escape line p) tt)
 
   pub conversion_escapes : (want : ℕ) (f : Scalar CheckedPointer → Events) → may_escape p.reach p.word ≡ false →
       Passes walk (Point line (Convert want) (Pointer p) zero_of f) walk (Stop (Reported (escape line p)))
   conversion_escapes want f out =
       passed walk line (Convert want) (Pointer p) zero_of f (Halt (Reported (escape line p)) tt)
-      (ap (λ b. cond b (checked_for want p tt) (Now (reported (escape line p) tt))) out)
+      (ap (λ b. cond b (check_for want p tt) (Now (halt_with (escape line p) tt))) out)
 
   pub conversion_of_null : (want : ℕ) (f : Scalar CheckedPointer → Events) → may_escape p.reach p.word ≡ true → is_null p ≡ true →
       Passes walk (Point line (Convert want) (Pointer p) zero_of f) walk (f (Pointer p))
   conversion_of_null want f inside is =
       passed walk line (Convert want) (Pointer p) zero_of f (Go (Pointer p) tt)
-      (ap (λ b. cond b (checked_for want p tt) (Now (reported (escape line p) tt))) inside
+      (ap (λ b. cond b (check_for want p tt) (Now (halt_with (escape line p) tt))) inside
       ∙ ap (λ b. let x : Asking = cond b (Now (Go (Pointer p) tt)) (Ask (call.Check p.word want)) in x) is)
 
   pub asks_check : (want : ℕ) → may_escape p.reach p.word ≡ true → is_null p ≡ false →
-      checked tt line (Convert want) (Pointer p) zero_of ≡ Ask (call.Check p.word want)
+      checked_point tt line (Convert want) (Pointer p) zero_of ≡ Ask (call.Check p.word want)
   asks_check want inside is =
-      ap (λ b. cond b (checked_for want p tt) (Now (reported (escape line p) tt))) inside
+      ap (λ b. cond b (check_for want p tt) (Now (halt_with (escape line p) tt))) inside
       ∙ ap (λ b. let x : Asking = cond b (Now (Go (Pointer p) tt)) (Ask (call.Check p.word want)) in x) is
 
-  pub asks_free : may_escape p.reach p.word ≡ true → checked tt line Free (Pointer p) zero_of ≡ Ask (call.Free p.word false)
+  pub asks_free : may_escape p.reach p.word ≡ true → checked_point tt line Free (Pointer p) zero_of ≡ Ask (call.Free p.word false)
   asks_free inside =
-      ap (λ b. let x : Asking = cond b (Ask (call.Free p.word false)) (Now (reported (escape line p) tt)) in x) inside
+      ap (λ b. let x : Asking = cond b (Ask (call.Free p.word false)) (Now (halt_with (escape line p) tt)) in x) inside
 
-  pub release_escapes : (t : Events) → may_escape p.reach p.word ≡ false → Passes walk (released line (Pointer p) t) walk (Stop (Reported (escape line p)))
+  pub release_escapes : (t : Events) → may_escape p.reach p.word ≡ false → Passes walk (release line (Pointer p) t) walk (Stop (Reported (escape line p)))
   release_escapes t out =
       passed walk line Pass (Pointer p) zero_of _ (Halt (Reported (escape line p)) tt)
-      (ap (λ b. let x : Asking = cond b (Now (Go (Pointer p) tt)) (Now (reported (escape line p) tt)) in x) out)
+      (ap (λ b. let x : Asking = cond b (Now (Go (Pointer p) tt)) (Now (halt_with (escape line p) tt)) in x) out)
 
   -- whether it is null is asked next
   is_asked : (t : Events) → may_escape p.reach p.word ≡ true →
-      Passes walk (released line (Pointer p) t) walk (cond (is_true (bit (is_null p))) t (heap_call line Free (Pointer p) zero_of (λ done. t)))
+      Passes walk (release line (Pointer p) t) walk (cond (is_true (bit (is_null p))) t (heap_call line Free (Pointer p) zero_of (λ done. t)))
   is_asked t inside =
       passes_on
       (passed walk line Pass (Pointer p) zero_of _ (Go (Pointer p) tt)
-      (ap (λ b. let x : Asking = cond b (Now (Go (Pointer p) tt)) (Now (reported (escape line p) tt)) in x) inside))
+      (ap (λ b. let x : Asking = cond b (Now (Go (Pointer p) tt)) (Now (halt_with (escape line p) tt)) in x) inside))
       (passed walk line IsNull (Pointer p) zero_of
       (λ is. cond (is_true (number_of is)) t (heap_call line Free (Pointer p) zero_of (λ done. t))) (Go (Number (bit (is_null p))) tt) refl)
 
-  pub release_of_null : (t : Events) → may_escape p.reach p.word ≡ true → is_null p ≡ true → Passes walk (released line (Pointer p) t) walk t
+  pub release_of_null : (t : Events) → may_escape p.reach p.word ≡ true → is_null p ≡ true → Passes walk (release line (Pointer p) t) walk t
   release_of_null t inside is =
       passes_on (is_asked t inside)
       (in_words _ (ap (λ b. cond (is_true (bit b)) t (heap_call line Free (Pointer p) zero_of (λ done. t))) is) (nothing walk t))
 
   pub release_goes : (t : Events) → may_escape p.reach p.word ≡ true → is_null p ≡ false →
-      Passes walk (released line (Pointer p) t) walk (heap_call line Free (Pointer p) zero_of (λ done. t))
+      Passes walk (release line (Pointer p) t) walk (heap_call line Free (Pointer p) zero_of (λ done. t))
   release_goes t inside is =
       passes_on (is_asked t inside)
       (in_words _ (ap (λ b. cond (is_true (bit b)) t (heap_call line Free (Pointer p) zero_of (λ done. t))) is)

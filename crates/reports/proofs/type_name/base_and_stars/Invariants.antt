@@ -1,7 +1,7 @@
 use Rattle.std.proofs.Common.{◌≡◌, ◌<◌, ◌-◌, ◌++◌, replicate}
 use Rattle.c_types.specs.Table.{IsNumber}
 use Rattle.reports.specs.TypeNames.{name_within, type_name}
-use Rattle.reports.proofs.type_name.pointed.Given as goal
+use Rattle.reports.proofs.type_name.base_and_stars.Given as goal
 
 abbrev pub invariant-loop-pointers : goal.invariant-loop-pointers
 invariant-loop-pointers l =

@@ -1,6 +1,6 @@
 use Rattle.reports.proofs.Names.{name_start, name_pointer}
 use Rattle.reports.specs.TypeNames.{type_name}
-use Rattle.reports.proofs.type_name.pointed.Goals as goal
+use Rattle.reports.proofs.type_name.base_and_stars.Goals as goal
 
 pub loop-pointers-init : goal.loop-pointers-init
 loop-pointers-init c = ((λ h. (h, c.requires)), name_start c.args.types.now c.args.number)

@@ -16,13 +16,9 @@ use Rattle.region_heaps.specs.Regions.{IsEmptyHeap, Steps, heap_of, no_heap}
 use Rattle.std.proofs.lemmas.Bool.{and_parts, leb-true, ltb-true}
 use Rattle.std.proofs.lemmas.Option.{same_Some, none-some}
 use Rattle.heap_model.specs.Forms.{region_for, region_or_one}
-use Rattle.heap_model.specs.Regions.{class_of, region_of, address_of, sizes}
+use Rattle.heap_model.specs.Regions.{IsRegion, class_of, region_of, address_of, sizes}
 use Rattle.heap_model.specs.declared.calls.Call.{Call}
 use Rattle.heap_model.specs.declared.calls.Call.TheVariants.{Alloc, Free, Check, Load, Store, Add}
-
--- a region from 1 to 27
-abbrev pub IsRegion : ℕ → Type 0
-IsRegion r = (1 ≤ r) × (r ≤ 27)
 
 chosen : (b : Bool) (x r : ℕ) → cond b (Some x) None ≡ Some r → (b ≡ true) × (x ≡ r)
 chosen true x r e = (refl, same_Some _ _ e)
