@@ -6,9 +6,10 @@ use Rattle.c_tokens.specs.declared.token.Token.{Token}
 use Rattle.c_grammar.specs.declared.words.Place.{Place}
 use Rattle.c_grammar.specs.declared.words.BasicWord.TheVariants as b
 use Rattle.c_grammar.specs.declared.words.BasicType.TheVariants as t
-use Rattle.c_grammar.specs.Tokens.{Name}
+use Rattle.c_tokens.specs.Names.{Name}
 use Rattle.c_grammar.specs.Words.{Spells, HoldsOneType, spelled, spells, names_types}
-use Rattle.c_grammar.specs.Scope.{IsType, Scope, a_type, before}
+use Rattle.c_grammar.specs.declared.words.NameKind.TheVariants as declares
+use Rattle.c_grammar.specs.Scope.{IsType, Scope, before}
 
 abbrev pub token : Kind → ℕ → ℕ → Token
 token kind start end = record { kind = kind; start = start; end = end; line = 1; first = false }
@@ -38,7 +39,7 @@ pub no_type_in_nothing : {name : Name} → IsType [] name → ⊥
 no_type_in_nothing t = elim t [ ]
 
 abbrev pub T : Scope
-T = (codes "T", a_type) ∷ []
+T = (codes "T", declares.Type) ∷ []
 
 pub x_is_no_type : IsType T (codes "x") → ⊥
 x_is_no_type (before differs t) = no_type_in_nothing t

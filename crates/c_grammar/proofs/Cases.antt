@@ -1,11 +1,12 @@
 -- Expressions and statements that are read by hand, where no name but `T` is a type.
-use Rattle.std.specs.Prelude.{◌≡◌, ℕ, List, [], ◌∷◌, Some, None, codes, refl}
+use Rattle.std.specs.Prelude.{ℕ, List, [], ◌∷◌, Some, None, codes, refl}
 use Rattle.std.proofs.Common.{arith}
 use Rattle.c_tokens.specs.declared.kind.Keyword.TheVariants as word
 use Rattle.c_tokens.specs.declared.kind.Mark.TheVariants as mark
 use Rattle.c_tokens.specs.declared.kind.NumType.TheVariants as n
 use Rattle.c_tokens.specs.declared.kind.Kind.TheVariants as k
 use Rattle.c_tokens.specs.declared.token.Token.{Token}
+use Rattle.c_grammar.specs.declared.words.Level.TheVariants as of
 use Rattle.c_grammar.specs.declared.words.Binary.TheVariants as binary
 use Rattle.c_grammar.specs.declared.words.Prefix.TheVariants as prefix
 use Rattle.c_grammar.specs.declared.words.BasicWord.TheVariants as b
@@ -15,10 +16,12 @@ use Rattle.c_grammar.specs.declared.phrases.Declarator.TheVariants as d
 use Rattle.c_grammar.specs.declared.statements.Initialiser.TheVariants as i
 use Rattle.c_grammar.specs.declared.statements.ForStart.TheVariants as begin
 use Rattle.c_grammar.specs.declared.statements.Statement.TheVariants as st
-use Rattle.c_grammar.specs.Tokens.{kind_at, place_at, name_at}
+use Rattle.c_tokens.specs.Names.{written, spelling}
+use Rattle.token_texts.specs.Names.{name_at}
+use Rattle.c_grammar.specs.Tokens.{kind_at, place_at}
 use Rattle.c_grammar.specs.Words.{by_itself}
 use Rattle.c_grammar.specs.Scope.{declared}
-use Rattle.c_grammar.specs.Operators.{any}
+use Rattle.c_grammar.specs.Operators.{tightness}
 use Rattle.c_grammar.specs.Phrases.{IsExpression}
 use Rattle.c_grammar.specs.Phrases as phrase
 use Rattle.c_grammar.specs.Initialisers as init
@@ -34,11 +37,11 @@ abbrev cast_tokens : List Token
 cast_tokens =
     token (k.Mark mark.LeftParen) 0 1 ∷ token k.Name 1 2 ∷ token (k.Mark mark.RightParen) 2 3 ∷ token (k.Mark mark.Minus) 3 4 ∷ token k.Name 4 5 ∷ []
 
-pub a_cast : IsExpression cast_text cast_tokens 3 any T T 0 5
+pub a_cast : IsExpression cast_text cast_tokens 3 (tightness of.Comma) T T 0 5
     (e.Cast (place 0)
-    (record { place = place 1; specs = record { place = place 1; words = s.TypeName (place 1) (codes "T") ∷ [] }; declarator = d.Unnamed })
-    (e.Prefix (place 3) prefix.Minus (e.Name (place 4) (codes "x"))))
-unfolding kind_at place_at name_at
+    (record { place = place 1; specs = record { place = place 1; words = s.TypedefName (place 1) ∷ [] }; declarator = d.Unnamed })
+    (e.Prefix (place 3) prefix.Minus (e.Name (place 4))))
+unfolding kind_at place_at name_at written spelling
 a_cast =
     phrase.cast_to (omega arith) refl
     (phrase.type_name
@@ -56,30 +59,30 @@ abbrev difference_tokens : List Token
 difference_tokens =
     token (k.Mark mark.LeftParen) 0 1 ∷ token k.Name 1 2 ∷ token (k.Mark mark.RightParen) 2 3 ∷ token (k.Mark mark.Minus) 3 4 ∷ token k.Name 4 5 ∷ []
 
-pub a_difference : IsExpression difference_text difference_tokens 3 any T T 0 5
-    (e.Binary (place 0) binary.Subtract (e.Parentheses (place 0) (e.Name (place 1) (codes "x"))) (e.Name (place 4) (codes "y")))
-unfolding kind_at place_at name_at
+pub a_difference : IsExpression difference_text difference_tokens 3 (tightness of.Comma) T T 0 5
+    (e.Binary (place 0) binary.Subtract (e.Parentheses (place 0) (e.Name (place 1))) (e.Name (place 4)))
+unfolding kind_at place_at name_at written spelling
 a_difference =
     phrase.binary binary.Subtract (omega arith)
     (phrase.parentheses (omega arith) refl (phrase.name (omega arith) refl x_is_no_type) refl) refl
     (phrase.name (omega arith) refl y_is_no_type)
 
 -- `a ? b, c : d`
-abbrev choice_text : List ℕ
-choice_text = codes "a ? b, c : d"
+abbrev conditional_text : List ℕ
+conditional_text = codes "a ? b, c : d"
 
-abbrev choice_tokens : List Token
-choice_tokens =
+abbrev conditional_tokens : List Token
+conditional_tokens =
     token k.Name 0 1 ∷ token (k.Mark mark.Question) 2 3 ∷ token k.Name 4 5 ∷ token (k.Mark mark.Comma) 5 6 ∷ token k.Name 7 8 ∷
     token (k.Mark mark.Colon) 9 10 ∷ token k.Name 11 12 ∷ []
 
-pub a_choice : IsExpression choice_text choice_tokens 3 any [] [] 0 7
-    (e.Conditional (place 0) (e.Name (place 0) (codes "a"))
-    (e.Comma (place 2) (e.Name (place 2) (codes "b") ∷ e.Name (place 4) (codes "c") ∷ []))
-    (e.Name (place 6) (codes "d")))
-unfolding kind_at place_at name_at
-a_choice =
-    phrase.choice (omega arith) (phrase.name (omega arith) refl no_type_in_nothing) refl
+pub a_conditional : IsExpression conditional_text conditional_tokens 3 (tightness of.Comma) [] [] 0 7
+    (e.Conditional (place 0) (e.Name (place 0))
+    (e.Comma (place 2) (e.Name (place 2) ∷ e.Name (place 4) ∷ []))
+    (e.Name (place 6)))
+unfolding kind_at place_at name_at written spelling
+a_conditional =
+    phrase.conditional (omega arith) (phrase.name (omega arith) refl no_type_in_nothing) refl
     (phrase.comma (omega arith) (phrase.name (omega arith) refl no_type_in_nothing) refl
     (phrase.last_expression (phrase.name (omega arith) refl no_type_in_nothing)))
     refl (phrase.name (omega arith) refl no_type_in_nothing)
@@ -96,9 +99,9 @@ nearest_tokens =
 
 -- the `else` belongs to the inner `if`
 pub to_the_nearest : IsStatement nearest_text nearest_tokens 3 [] [] 0 11
-    (st.If (place 0) (e.Name (place 2) (codes "a"))
-    (st.IfElse (place 4) (e.Name (place 6) (codes "b")) (st.Empty (place 8)) (st.Empty (place 10))))
-unfolding kind_at place_at name_at
+    (st.If (place 0) (e.Name (place 2))
+    (st.IfElse (place 4) (e.Name (place 6)) (st.Empty (place 8)) (st.Empty (place 10))))
+unfolding kind_at place_at name_at written spelling
 to_the_nearest =
     statement.if_alone refl refl (phrase.name (omega arith) refl no_type_in_nothing) refl
     (statement.if_else refl refl (phrase.name (omega arith) refl no_type_in_nothing) refl (statement.empty refl) refl (statement.empty refl))
@@ -120,18 +123,13 @@ pub a_loop : IsStatement loop_text loop_tokens 3 [] [] 0 10
       place = place 2;
       specs = record { place = place 2; words = s.Basic (place 2) b.Int ∷ [] };
       declarators =
-          (record { place = place 3; declarator = d.Name (place 3) (codes "i"); value = Some (i.Value (e.Number (place 5) 0 n.Int)) }) ∷ [];
+          (record { place = place 3; declarator = d.Name (place 3); value = Some (i.Value (e.Number (place 5) 0 n.Int)) }) ∷ [];
     }))
     None None (st.Empty (place 9)))
-unfolding kind_at place_at name_at
+unfolding kind_at place_at name_at written spelling
 a_loop =
     statement.for refl refl
     (statement.declaration
     (init.of_names (phrase.specs (phrase.more_specifiers (phrase.basic b.Int refl) phrase.no_specifiers) an_int)
     (init.last (init.with_value (phrase.declared_name refl) refl (init.value (phrase.number (omega arith) refl)))) refl))
     statement.absent refl statement.absent refl (statement.empty refl)
-
--- a line that is joined inside a name is no part of it
-pub a_joined_name : name_at (97 ∷ 92 ∷ 10 ∷ 98 ∷ []) (token k.Name 0 4 ∷ []) 0 ≡ codes "ab"
-unfolding name_at
-a_joined_name = refl

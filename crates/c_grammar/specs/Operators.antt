@@ -2,6 +2,8 @@
 use Rattle.std.specs.Prelude.{ℕ}
 use Rattle.c_tokens.specs.declared.kind.Mark.{Mark}
 use Rattle.c_tokens.specs.declared.kind.Mark.TheVariants as mark
+use Rattle.c_grammar.specs.declared.words.Level.{Level}
+use Rattle.c_grammar.specs.declared.words.Level.TheVariants as of
 use Rattle.c_grammar.specs.declared.words.Binary.{Binary}
 use Rattle.c_grammar.specs.declared.words.Binary.TheVariants as binary
 use Rattle.c_grammar.specs.declared.words.Assignment.{Assignment}
@@ -13,51 +15,48 @@ use Rattle.c_grammar.specs.declared.words.Postfix.TheVariants as postfix
 use Rattle.c_grammar.specs.declared.words.Selection.{Selection}
 use Rattle.c_grammar.specs.declared.words.Selection.TheVariants as selection
 
--- The levels of expressions, the loosest first: with commas, with assignments, with `?:`, then those of the operators
--- between two operands, then with casts, with operators before an operand, with what stands behind one, and the rest.
-abbrev pub any : ℕ
-any = 0
+-- how tightly an expression of the level binds
+abbrev pub tightness : Level → ℕ
+tightness of.Comma = 0
+tightness of.Assignment = 1
+tightness of.Conditional = 2
+tightness of.LogicalOr = 3
+tightness of.LogicalAnd = 4
+tightness of.Or = 5
+tightness of.ExclusiveOr = 6
+tightness of.And = 7
+tightness of.Equality = 8
+tightness of.Relational = 9
+tightness of.Shift = 10
+tightness of.Additive = 11
+tightness of.Multiplicative = 12
+tightness of.Cast = 13
+tightness of.Unary = 14
+tightness of.Postfix = 15
+tightness of.Primary = 16
 
-abbrev pub assigned : ℕ
-assigned = 1
-
-abbrev pub conditional : ℕ
-conditional = 2
-
-abbrev pub operated : ℕ
-operated = 3
-
-abbrev pub cast : ℕ
-cast = 13
-
-abbrev pub unary : ℕ
-unary = 14
-
-abbrev pub behind : ℕ
-behind = 15
-
-abbrev pub primary : ℕ
-primary = 16
+abbrev pub binary_level : Binary → Level
+binary_level binary.LogicalOr = of.LogicalOr
+binary_level binary.LogicalAnd = of.LogicalAnd
+binary_level binary.Or = of.Or
+binary_level binary.ExclusiveOr = of.ExclusiveOr
+binary_level binary.And = of.And
+binary_level binary.Equal = of.Equality
+binary_level binary.NotEqual = of.Equality
+binary_level binary.Less = of.Relational
+binary_level binary.Greater = of.Relational
+binary_level binary.LessEqual = of.Relational
+binary_level binary.GreaterEqual = of.Relational
+binary_level binary.ShiftLeft = of.Shift
+binary_level binary.ShiftRight = of.Shift
+binary_level binary.Add = of.Additive
+binary_level binary.Subtract = of.Additive
+binary_level binary.Multiply = of.Multiplicative
+binary_level binary.Divide = of.Multiplicative
+binary_level binary.Remainder = of.Multiplicative
 
 abbrev pub rank : Binary → ℕ
-rank binary.LogicalOr = 3
-rank binary.LogicalAnd = 4
-rank binary.Or = 5
-rank binary.ExclusiveOr = 6
-rank binary.And = 7
-rank binary.Equal = 8
-rank binary.NotEqual = 8
-rank binary.Less = 9
-rank binary.Greater = 9
-rank binary.LessEqual = 9
-rank binary.GreaterEqual = 9
-rank binary.ShiftLeft = 10
-rank binary.ShiftRight = 10
-rank binary.Add = 11
-rank binary.Subtract = 11
-rank binary.Multiply = 12
-rank binary.Divide = 12
-rank binary.Remainder = 12
+rank op = tightness (binary_level op)
 
 abbrev pub binary_mark : Binary → Mark
 binary_mark binary.LogicalOr = mark.OrOr
@@ -102,16 +101,16 @@ prefix_mark prefix.Minus = mark.Minus
 prefix_mark prefix.Complement = mark.Tilde
 prefix_mark prefix.Not = mark.Not
 
--- What stands behind such an operator: `++` and `--` take no cast (C11 6.5.3).
-abbrev pub operand_level : Prefix → ℕ
-operand_level prefix.Increment = unary
-operand_level prefix.Decrement = unary
-operand_level prefix.Address = cast
-operand_level prefix.Dereference = cast
-operand_level prefix.Plus = cast
-operand_level prefix.Minus = cast
-operand_level prefix.Complement = cast
-operand_level prefix.Not = cast
+-- What stands after such an operator: `++` and `--` take no cast (C11 6.5.3).
+abbrev pub operand_level : Prefix → Level
+operand_level prefix.Increment = of.Unary
+operand_level prefix.Decrement = of.Unary
+operand_level prefix.Address = of.Cast
+operand_level prefix.Dereference = of.Cast
+operand_level prefix.Plus = of.Cast
+operand_level prefix.Minus = of.Cast
+operand_level prefix.Complement = of.Cast
+operand_level prefix.Not = of.Cast
 
 abbrev pub postfix_mark : Postfix → Mark
 postfix_mark postfix.Increment = mark.PlusPlus

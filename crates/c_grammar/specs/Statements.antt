@@ -1,11 +1,12 @@
 -- Statements and blocks.
 --
 -- Each `if`, `while`, `do`, `for` and `switch` is a scope, and so is each statement that is a part of one (C11 6.8.4p3, 6.8.5p5),
--- and each block: behind it is in scope what was before. Counted is each statement; a declaration is not.
+-- and each block: after it is in scope what was before. Counted is each statement; a declaration is not.
 use Rattle.std.specs.Prelude.{ℕ, suc, ◌+◌, List, [], ◌∷◌, Option, Some, None}
 use Rattle.c_tokens.specs.declared.kind.Keyword.TheVariants as word
 use Rattle.c_tokens.specs.declared.kind.Mark.TheVariants as mark
 use Rattle.c_tokens.specs.declared.token.Token.{Token}
+use Rattle.c_grammar.specs.declared.words.Level.TheVariants as of
 use Rattle.c_grammar.specs.declared.phrases.Expression.{Expression}
 use Rattle.c_grammar.specs.declared.statements.Declaration.{Declaration}
 use Rattle.c_grammar.specs.declared.statements.Block.{Block}
@@ -17,7 +18,7 @@ use Rattle.c_grammar.specs.declared.statements.Statement.{Statement}
 use Rattle.c_grammar.specs.declared.statements.Statement.TheVariants as s
 use Rattle.c_grammar.specs.Tokens.{place_at, IsMark, IsWord}
 use Rattle.c_grammar.specs.Scope.{Scope}
-use Rattle.c_grammar.specs.Operators.{any, conditional}
+use Rattle.c_grammar.specs.Operators.{tightness}
 use Rattle.c_grammar.specs.Phrases.{IsExpression}
 use Rattle.c_grammar.specs.Initialisers.{IsDeclaration}
 
@@ -26,7 +27,7 @@ module _ (text : List ℕ) (ts : List Token) where
   pub data IsOptional : ℕ → Scope → Scope → ℕ → ℕ → Option Expression → Type 0 where
     absent : {depth at : ℕ} {scope : Scope} → IsOptional depth scope scope at at None
     present : {depth from to : ℕ} {scope after : Scope} {value : Expression} →
-        IsExpression text ts depth any scope after from to value → IsOptional depth scope after from to (Some value)
+        IsExpression text ts depth (tightness of.Comma) scope after from to value → IsOptional depth scope after from to (Some value)
 
   -- `declaration`, or `expr? ;`
   pub data IsForStart : ℕ → Scope → Scope → ℕ → ℕ → ForStart → Type 0 where
@@ -61,28 +62,28 @@ module _ (text : List ℕ) (ts : List Token) where
           IsStatement (suc depth) scope scope from (from + 1) (s.Empty (place_at ts from))
       -- `expr ;`
       expression : {depth from to : ℕ} {scope after : Scope} {value : Expression} →
-          IsExpression text ts depth any scope after from to value → IsMark ts to mark.Semicolon →
+          IsExpression text ts depth (tightness of.Comma) scope after from to value → IsMark ts to mark.Semicolon →
           IsStatement (suc depth) scope after from (to + 1) (s.Expression (place_at ts from) value)
-      -- `if ( expr ) statement` with no `else` behind it: an `else` belongs to the nearest `if` (C11 6.8.4.1p3)
+      -- `if ( expr ) statement` with no `else` after it: an `else` belongs to the nearest `if` (C11 6.8.4.1p3)
       if_alone : {depth from at to : ℕ} {scope one two : Scope} {test : Expression} {then : Statement} →
-          IsWord ts from word.If → IsMark ts (from + 1) mark.LeftParen → IsExpression text ts depth any scope one (from + 2) at test →
+          IsWord ts from word.If → IsMark ts (from + 1) mark.LeftParen → IsExpression text ts depth (tightness of.Comma) scope one (from + 2) at test →
           IsMark ts at mark.RightParen → IsStatement depth one two (at + 1) to then → (IsWord ts to word.Else → ⊥) →
           IsStatement (suc depth) scope scope from to (s.If (place_at ts from) test then)
       -- `if ( expr ) statement else statement`
       if_else : {depth from at middle to : ℕ} {scope one two three : Scope} {test : Expression} {then otherwise : Statement} →
-          IsWord ts from word.If → IsMark ts (from + 1) mark.LeftParen → IsExpression text ts depth any scope one (from + 2) at test →
+          IsWord ts from word.If → IsMark ts (from + 1) mark.LeftParen → IsExpression text ts depth (tightness of.Comma) scope one (from + 2) at test →
           IsMark ts at mark.RightParen → IsStatement depth one two (at + 1) middle then → IsWord ts middle word.Else →
           IsStatement depth one three (middle + 1) to otherwise →
           IsStatement (suc depth) scope scope from to (s.IfElse (place_at ts from) test then otherwise)
       -- `while ( expr ) statement`
       while : {depth from at to : ℕ} {scope one two : Scope} {test : Expression} {body : Statement} →
-          IsWord ts from word.While → IsMark ts (from + 1) mark.LeftParen → IsExpression text ts depth any scope one (from + 2) at test →
+          IsWord ts from word.While → IsMark ts (from + 1) mark.LeftParen → IsExpression text ts depth (tightness of.Comma) scope one (from + 2) at test →
           IsMark ts at mark.RightParen → IsStatement depth one two (at + 1) to body →
           IsStatement (suc depth) scope scope from to (s.While (place_at ts from) test body)
       -- `do statement while ( expr ) ;`
       do_while : {depth from at to : ℕ} {scope one two : Scope} {body : Statement} {test : Expression} →
           IsWord ts from word.Do → IsStatement depth scope one (from + 1) at body → IsWord ts at word.While →
-          IsMark ts (at + 1) mark.LeftParen → IsExpression text ts depth any scope two (at + 2) to test →
+          IsMark ts (at + 1) mark.LeftParen → IsExpression text ts depth (tightness of.Comma) scope two (at + 2) to test →
           IsMark ts to mark.RightParen → IsMark ts (to + 1) mark.Semicolon →
           IsStatement (suc depth) scope scope from (to + 2) (s.Do (place_at ts from) body test)
       -- `for ( (declaration | expr? ;) expr? ; expr? ) statement`
@@ -95,12 +96,12 @@ module _ (text : List ℕ) (ts : List Token) where
           IsStatement (suc depth) scope scope from to (s.For (place_at ts from) start test step body)
       -- `switch ( expr ) block`
       switch : {depth from at to : ℕ} {scope one : Scope} {value : Expression} {body : Block} →
-          IsWord ts from word.Switch → IsMark ts (from + 1) mark.LeftParen → IsExpression text ts depth any scope one (from + 2) at value →
+          IsWord ts from word.Switch → IsMark ts (from + 1) mark.LeftParen → IsExpression text ts depth (tightness of.Comma) scope one (from + 2) at value →
           IsMark ts at mark.RightParen → IsBlock depth one (at + 1) to body →
           IsStatement (suc depth) scope scope from to (s.Switch (place_at ts from) value body)
       -- `case cond :`, by itself
       case : {depth from to : ℕ} {scope after : Scope} {value : Expression} →
-          IsWord ts from word.Case → IsExpression text ts depth conditional scope after (from + 1) to value → IsMark ts to mark.Colon →
+          IsWord ts from word.Case → IsExpression text ts depth (tightness of.Conditional) scope after (from + 1) to value → IsMark ts to mark.Colon →
           IsStatement (suc depth) scope after from (to + 1) (s.Case (place_at ts from) value)
       -- `default :`, by itself
       default : {depth from : ℕ} {scope : Scope} → IsWord ts from word.Default → IsMark ts (from + 1) mark.Colon →

@@ -1,11 +1,10 @@
 //! Expressions, and what declares: specifiers and declarators. They lead to one another, since a cast has the name of a
-//! type, and a declarator the size of an array.
+//! type, and a declarator the size of an array. A node says by which token a name is spelled, not how.
 
 use crate::words::{
     Aggregate, Assignment, BasicWord, Binary, Place, Postfix, Prefix, Qualifier, Selection, Storage,
 };
 use c_tokens::NumType;
-use c_types::Text;
 use sqlite_items::{Boxed, Items};
 
 /// An expression (C11 6.5), with the place of its first token, which is that of its left operand where it begins with one.
@@ -13,7 +12,7 @@ use sqlite_items::{Boxed, Items};
 #[derive(Debug, Drop)]
 pub enum Expression {
     /// A name that is no type where it stands.
-    Name(Place, Text),
+    Name(Place),
     /// The value and the type of a constant (C11 6.4.4.1).
     Number(Place, u64, NumType),
     /// A character constant, whose type is `int`.
@@ -26,8 +25,8 @@ pub enum Expression {
     Index(Place, Boxed<Expression>, Boxed<Expression>),
     /// `function(arguments)`
     Call(Place, Boxed<Expression>, Items<Expression>),
-    /// `operand.name` or `operand->name`
-    Select(Place, Selection, Boxed<Expression>, Text),
+    /// `operand.name` or `operand->name`, with the number of the member's token.
+    Select(Place, Selection, Boxed<Expression>, u32),
     /// `operand++` or `operand--`
     Postfix(Place, Postfix, Boxed<Expression>),
     /// An operator before its operand, as `-operand`.
@@ -35,9 +34,9 @@ pub enum Expression {
     /// `sizeof operand`
     SizeOf(Place, Boxed<Expression>),
     /// `sizeof (type)`
-    SizeOfType(Place, Boxed<TypeName>),
+    SizeOfType(Place, Boxed<TypePhrase>),
     /// `(type)operand`
-    Cast(Place, Boxed<TypeName>, Boxed<Expression>),
+    Cast(Place, Boxed<TypePhrase>, Boxed<Expression>),
     /// An operator between two operands, as `left + right`.
     Binary(Place, Binary, Boxed<Expression>, Boxed<Expression>),
     /// `test ? then : otherwise`
@@ -51,7 +50,7 @@ pub enum Expression {
 /// The name of a type (C11 6.7.7): its declarator has no name.
 #[cycle(phrases)]
 #[derive(Debug, Drop)]
-pub struct TypeName {
+pub struct TypePhrase {
     pub place: Place,
     pub specs: Specs,
     pub declarator: Declarator,
@@ -73,16 +72,16 @@ pub enum Specifier {
     Qualifier(Place, Qualifier),
     /// One of the words of which basic types are spelled.
     Basic(Place, BasicWord),
-    /// `struct NAME { members }`, or without a name.
-    Members(Place, Aggregate, Option<Text>, Items<Member>),
-    /// `struct NAME`
-    Tag(Place, Aggregate, Text),
-    /// `enum NAME { enumerators }`, or without a name.
-    Enumerators(Place, Option<Text>, Items<Enumerator>),
-    /// `enum NAME`
-    EnumTag(Place, Text),
+    /// `struct NAME { members }`, or without a name: with the number of the name's token.
+    Members(Place, Aggregate, Option<u32>, Items<Member>),
+    /// `struct NAME`, with the number of the name's token.
+    Tag(Place, Aggregate, u32),
+    /// `enum NAME { enumerators }`, or without a name: with the number of the name's token.
+    Enumerators(Place, Option<u32>, Items<Enumerator>),
+    /// `enum NAME`, with the number of the name's token.
+    EnumTag(Place, u32),
     /// A name that is a type where it stands.
-    TypeName(Place, Text),
+    TypedefName(Place),
 }
 
 /// The declaration of members of a struct or union (C11 6.7.2.1): one declarator at least.
@@ -94,12 +93,11 @@ pub struct Member {
     pub declarators: Items<Declarator>,
 }
 
-/// An enumeration constant, and its value where one is given (C11 6.7.2.2).
+/// An enumeration constant, which is the token at its place, and its value where it has one (C11 6.7.2.2).
 #[cycle(phrases)]
 #[derive(Debug, Drop)]
 pub struct Enumerator {
     pub place: Place,
-    pub name: Text,
     pub value: Option<Boxed<Expression>>,
 }
 
@@ -108,10 +106,10 @@ pub struct Enumerator {
 #[derive(Debug, Drop)]
 pub enum Declarator {
     /// The name that is declared.
-    Name(Place, Text),
+    Name(Place),
     /// The name that is left out in the name of a type, or of a parameter: it has no token, and so no place.
     Unnamed,
-    /// `*` with the qualifiers behind it, before a declarator.
+    /// `*` with the qualifiers after it, before a declarator.
     Pointer(Place, Items<Qualifier>, Boxed<Declarator>),
     /// `(inner)`
     Parentheses(Place, Boxed<Declarator>),

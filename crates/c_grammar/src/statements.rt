@@ -44,7 +44,7 @@ pub enum BlockItem {
     Statement(Statement),
 }
 
-/// What stands first behind `for (` (C11 6.8.5.3): a declaration, or an expression, which may be left out.
+/// What stands first after `for (` (C11 6.8.5.3): a declaration, or an expression, which may be left out.
 #[derive(Debug, Drop)]
 pub enum ForStart {
     Declaration(Declaration),

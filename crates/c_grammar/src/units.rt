@@ -1,9 +1,10 @@
-//! A whole text.
+//! Whole texts, and names of types that stand alone.
 
-use crate::phrases::{Declarator, Specs};
+use crate::phrases::{Declarator, Specs, TypePhrase};
 use crate::statements::{Block, Declaration};
 use crate::words::Place;
 use sqlite_items::Items;
+use token_texts::TokenTexts;
 
 /// A function with its body (C11 6.9.1).
 #[derive(Debug, Drop)]
@@ -21,8 +22,16 @@ pub enum External {
     Function(Function),
 }
 
-/// A whole text: its declarations and functions, in their order.
+/// A whole text: its declarations and functions, in their order, and what its names and strings are.
 #[derive(Debug, Drop)]
 pub struct Unit {
     pub items: Items<External>,
+    pub texts: TokenTexts,
+}
+
+/// The name of a type that stands alone, and what its names and strings are.
+#[derive(Debug, Drop)]
+pub struct TypeName {
+    pub phrase: TypePhrase,
+    pub texts: TokenTexts,
 }

@@ -17,7 +17,7 @@ pub enum Storage {
     Auto,
 }
 
-/// The words of C11 6.7.3 and 6.7.4, which are read and have no effect. Behind a `*` there is no `inline`.
+/// The words of C11 6.7.3 and 6.7.4, which are read and have no effect. After a `*` there is no `inline`.
 #[derive(Clone, Copy, Debug, PartialEq, Eq)]
 pub enum Qualifier {
     Const,
@@ -58,7 +58,7 @@ pub enum Aggregate {
     Union,
 }
 
-/// The operators between two operands that group to the left, the weakest first (C11 6.5.5 to 6.5.14).
+/// The operators between two operands that group to the left, the loosest first (C11 6.5.5 to 6.5.14).
 #[derive(Clone, Copy, Debug, PartialEq, Eq)]
 pub enum Binary {
     LogicalOr,
@@ -110,7 +110,7 @@ pub enum Prefix {
     Not,
 }
 
-/// The operators behind their operand (C11 6.5.2.4): `++` and `--`.
+/// The operators after their operand (C11 6.5.2.4): `++` and `--`.
 #[derive(Clone, Copy, Debug, PartialEq, Eq)]
 pub enum Postfix {
     Increment,
@@ -122,4 +122,47 @@ pub enum Postfix {
 pub enum Selection {
     Direct,
     ThroughPointer,
+}
+
+/// What a declared name is (C11 6.2.1, 6.7.8).
+#[derive(Clone, Copy, Debug, PartialEq, Eq)]
+pub enum NameKind {
+    /// A type, declared by `typedef`.
+    Type,
+    /// An object, a function or an enumeration constant.
+    Ordinary,
+}
+
+/// Whether a declarator has a name (C11 6.7.6, 6.7.7).
+#[derive(Clone, Copy, Debug, PartialEq, Eq)]
+pub enum Naming {
+    /// It has one: it declares an object, a function, a type or a member.
+    Named,
+    /// It has one or leaves it out: it is a parameter's.
+    NamedOrNot,
+    /// It has none: it belongs to the name of a type.
+    NotNamed,
+}
+
+/// The kinds of expressions, the loosest first, by the names that C11 6.5 gives to their productions.
+#[derive(Clone, Copy, Debug, PartialEq, Eq)]
+pub enum Level {
+    /// With commas: any expression.
+    Comma,
+    Assignment,
+    Conditional,
+    LogicalOr,
+    LogicalAnd,
+    Or,
+    ExclusiveOr,
+    And,
+    Equality,
+    Relational,
+    Shift,
+    Additive,
+    Multiplicative,
+    Cast,
+    Unary,
+    Postfix,
+    Primary,
 }

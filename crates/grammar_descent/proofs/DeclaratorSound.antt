@@ -1,29 +1,35 @@
 -- What is read as a declarator is derived.
-use Rattle.std.proofs.Common.{◌≡◌, ◌≢◌, ℕ, zero, suc, ◌+◌, ◌<◌, ◌≤◌, max, false, ◌&&◌, List, [], ◌∷◌, ◌++◌, length, Option, Some, None, refl, sym, ap, subst, ◌∙◌, arith, append_assoc, append-nil, inl, inr, nat_lt, eq-or-lt_of_le}
+use Rattle.std.proofs.Common.{◌≡◌, ◌≢◌, ℕ, zero, suc, ◌+◌, ◌<◌, ◌≤◌, max, true, false, ◌&&◌, List, [], ◌∷◌, ◌++◌, length, Option, Some, None, refl, sym, ap, subst, ◌∙◌, arith, append_assoc, append-nil, inl, inr, nat_lt, eq-or-lt_of_le}
 use Rattle.std.proofs.lemmas.Bool.{ltb-true, cases_Bool}
 use Rattle.c_tokens.specs.declared.kind.Keyword.TheVariants as word
 use Rattle.c_tokens.specs.declared.kind.Mark.TheVariants as mark
 use Rattle.c_tokens.specs.declared.kind.Kind.TheVariants as k
 use Rattle.c_tokens.specs.declared.token.Token.{Token}
+use Rattle.c_grammar.specs.declared.words.NameKind.TheVariants as declares
+use Rattle.c_grammar.specs.declared.words.Naming.{Naming}
+use Rattle.c_grammar.specs.declared.words.Naming.TheVariants as naming
+use Rattle.c_grammar.specs.declared.words.Level.TheVariants as of
 use Rattle.c_grammar.specs.declared.words.Qualifier.{Qualifier}
 use Rattle.c_grammar.specs.declared.words.Qualifier.TheVariants as q
 use Rattle.c_grammar.specs.declared.phrases.Specs.{Specs}
 use Rattle.c_grammar.specs.declared.phrases.Declarator.{Declarator}
 use Rattle.c_grammar.specs.declared.phrases.Declarator.TheVariants as made
 use Rattle.c_grammar.specs.declared.phrases.Parameter.{Parameter}
-use Rattle.c_grammar.specs.Tokens.{Name, kind_at, place_at, name_at, IsMark, IsName}
+use Rattle.c_tokens.specs.Names.{Name}
+use Rattle.token_texts.specs.Names.{name_at}
+use Rattle.c_grammar.specs.Tokens.{kind_at, place_at, IsMark, IsName}
 use Rattle.c_grammar.specs.Words.{Role}
-use Rattle.c_grammar.specs.Scope.{Scope, use_of, first_of}
-use Rattle.c_grammar.specs.Operators.{conditional}
-use Rattle.c_grammar.specs.Phrases.{Form, declares, parameter, unnamed, Grip, loose, tight, MayEnclose, where_one_is_declared, in_a_parameter, without_a_name, AreQualifiers, IsSpecs, IsDeclarator, AreParameters, AreSomeParameters, IsParameter}
+use Rattle.c_grammar.specs.Scope.{Scope, first_of}
+use Rattle.c_grammar.specs.Operators.{tightness}
+use Rattle.c_grammar.specs.Phrases.{DeclaratorKind, whole, direct, MayEnclose, with_a_name, in_a_parameter, without_a_name, AreQualifiers, IsSpecs, IsDeclarator, AreParameters, AreSomeParameters, IsParameter}
 use Rattle.c_grammar.specs.Phrases as p
-use Rattle.grammar_descent.specs.Reading.{State, sees, mark_at, word_at, past, Naming, named, named_or_not, not_named, FoundDeclarator, Readers}
-use Rattle.grammar_descent.specs.Exact.{Grows, form_of, SoundDeclarator}
+use Rattle.grammar_descent.specs.Reading.{State, sees, mark_at, word_at, past, FoundDeclarator, Readers}
+use Rattle.grammar_descent.specs.Exact.{Grows, SoundDeclarator}
 use Rattle.grammar_descent.specs.Types.{begins_specs}
 use Rattle.grammar_descent.specs.DeclaratorSteps as step
-use Rattle.grammar_descent.specs.DeclaratorSteps.{joined, nameless, may_leave_out, opens_parameters, new_since, with_name}
+use Rattle.grammar_descent.specs.DeclaratorSteps.{declarator_within, no_name, may_leave_out, opens_parameters, new_since, with_parameter}
 use Rattle.grammar_descent.proofs.Seen.{here, stands, stands_not, bind_some, chosen, seen, both}
-use Rattle.grammar_descent.proofs.States.{neither, not_both, added}
+use Rattle.grammar_descent.proofs.States.{neither, not_both, added, as_found}
 use Rattle.grammar_descent.proofs.Moves.{declarator_moves}
 use Rattle.grammar_descent.proofs.FirstTokens.{BeginsDeclarator, nothing, star, opening, bracket, a_name, a_parameter, declarator_begins, type_begins}
 use Rattle.grammar_descent.proofs.DeclaratorComplete.{own_is}
@@ -43,7 +49,7 @@ under P high zero deep f = absurd (omega arith)
 under P high (suc d) deep f = f d (omega arith)
 
 pub joined_parts : (depth : ℕ) (node : Declarator) (name : Option Name) (own : Option Scope) (high : ℕ) (s : State) (r : FoundDeclarator × State) →
-    joined depth node name own high s ≡ Some r → (high < depth) × (((node, name, own, high + 1), s) ≡ r)
+    declarator_within depth node name own high s ≡ Some r → (high < depth) × ((as_found node name own (high + 1), s) ≡ r)
 joined_parts depth node name own high s r h = elim (chosen (nat_lt high depth) _ None (Some r) h) [
   | inl c ↦ (ltb-true _ _ c.0, (let e = c.1 in cc))
   | inr c ↦ absurd (let e = c.1 in cc)
@@ -77,28 +83,28 @@ module _ (text : List ℕ) (ts : List Token) (depth : ℕ) (inner : Readers) (so
     grows : Grows s.scope r.1.scope
 
   is_parameter : (d from at : ℕ) (scope between : Scope) (roles : List Role) (specs : Specs) (t : State) (node : Declarator) (name : Option Name) (own : Option Scope) →
-      IsSpecs text ts d scope between roles from at specs → IsDeclarator text ts (form_of named_or_not name) loose d between t.scope at t.at name own node →
-      IsParameter text ts d scope (with_name roles name t).scope from (with_name roles name t).at (record { place = place_at ts from; specs = specs; declarator = node })
+      IsSpecs text ts d scope between roles from at specs → IsDeclarator text ts naming.NamedOrNot whole d between t.scope at t.at name own node →
+      IsParameter text ts d scope (with_parameter name t).scope from (with_parameter name t).at (record { place = place_at ts from; specs = specs; declarator = node })
   is_parameter d from at scope between roles specs t node (Some name) own a b = p.with_name a b
   is_parameter d from at scope between roles specs t node None own a b = p.without_name a b
 
-  named_grows : (scope : Scope) (roles : List Role) (name : Option Name) (t : State) → Grows scope t.scope → Grows scope (with_name roles name t).scope
-  named_grows scope roles (Some name) t g = record { new = (name, use_of roles) ∷ g.new; is = ap (λ l. (name, use_of roles) ∷ l) g.is }
-  named_grows scope roles None t g = g
+  named_grows : (scope : Scope) (name : Option Name) (t : State) → Grows scope t.scope → Grows scope (with_parameter name t).scope
+  named_grows scope (Some name) t g = record { new = (name, declares.Ordinary) ∷ g.new; is = ap (λ l. (name, declares.Ordinary) ∷ l) g.is }
+  named_grows scope None t g = g
 
   parameter_sound : (s : State) (r : (Parameter × ℕ) × State) → step.parameter_at text ts inner s ≡ Some r → ParameterRead s r
   unfolding step.parameter_at
   parameter_sound s r h =
       let (a, found, h1) = bind_some (inner.specs s) _ r h in
-      let (b, found_too, h2) = bind_some (inner.declarator named_or_not a.1) _ r h1 in
+      let (b, found_too, h2) = bind_some (inner.declarator naming.NamedOrNot a.1) _ r h1 in
       let f = sound.specs s a.1 a.0.0 a.0.1 a.0.2 found in
-      let g = sound.declarator named_or_not a.1 b.1 b.0.0 b.0.1 b.0.2 b.0.3 found_too in
-      let e : ((record { place = place_at ts s.at; specs = a.0.0; declarator = b.0.0 }, max a.0.2 b.0.3), with_name a.0.1 b.0.1 b.1) ≡ r = cc in
+      let g = sound.declarator naming.NamedOrNot a.1 b.1 b.0 found_too in
+      let e : ((record { place = place_at ts s.at; specs = a.0.0; declarator = b.0.node }, max a.0.2 b.0.height), with_parameter b.0.name b.1) ≡ r = cc in
       subst (ParameterRead s) e
       (record {
         derived =
-            λ d deep. is_parameter d s.at a.1.at s.scope a.1.scope a.0.1 a.0.0 b.1 b.0.0 b.0.1 b.0.2 (f.derived d (omega arith)) (g.derived d (omega arith));
-        grows = named_grows s.scope a.0.1 b.0.1 b.1 (grows_on f.grows g.grows);
+            λ d deep. is_parameter d s.at a.1.at s.scope a.1.scope a.0.1 a.0.0 b.1 b.0.node b.0.name b.0.own (f.derived d (omega arith)) (g.derived d (omega arith));
+        grows = named_grows s.scope b.0.name b.1 (grows_on f.grows g.grows);
       })
 
   -- What a loop reads is what it was given, and then parameters.
@@ -177,113 +183,108 @@ module _ (text : List ℕ) (ts : List Token) (depth : ℕ) (inner : Readers) (so
 
   -- ---- declarators
 
-  abbrev Derives : Naming → Grip → State → FoundDeclarator × State → ℕ → Type 0
-  Derives how grip s r d = IsDeclarator text ts (form_of how r.0.1) grip d s.scope r.1.scope s.at r.1.at r.0.1 r.0.2 r.0.0
+  abbrev Derives : Naming → DeclaratorKind → State → FoundDeclarator × State → ℕ → Type 0
+  Derives how kind s r d = IsDeclarator text ts how kind d s.scope r.1.scope s.at r.1.at r.0.name r.0.own r.0.node
 
-  record Read (how : Naming) (grip : Grip) (s : State) (r : FoundDeclarator × State) : Type 0 where
-    low : r.0.3 ≤ depth
-    derived : (d : ℕ) → r.0.3 ≤ d → Derives how grip s r d
+  record Read (how : Naming) (kind : DeclaratorKind) (s : State) (r : FoundDeclarator × State) : Type 0 where
+    low : r.0.height ≤ depth
+    derived : (d : ℕ) → r.0.height ≤ d → Derives how kind s r d
     grows : Grows s.scope r.1.scope
 
-  array_sound : (how : Naming) (s t : State) (f : FoundDeclarator) (r : FoundDeclarator × State) → Read how tight s (f, t) → IsMark ts t.at mark.LeftBracket →
-      step.array_behind text ts inner depth s.at f t ≡ Some r → Read how tight s r
-  unfolding step.array_behind
+  array_sound : (how : Naming) (s t : State) (f : FoundDeclarator) (r : FoundDeclarator × State) → Read how direct s (f, t) → IsMark ts t.at mark.LeftBracket →
+      step.array_after text ts inner depth s.at f t ≡ Some r → Read how direct s r
+  unfolding step.array_after
   array_sound how s t f r inside opens h = elim (chosen (mark_at ts (t.at + 1) mark.RightBracket) _ _ (Some r) h) [
     | inl c ↦ (
-        let (low, e) = joined_parts depth (made.Array (place_at ts s.at) f.0 None) f.1 f.2 f.3 (past t 2) r c.1 in
-        subst (Read how tight s) e
+        let (low, e) = joined_parts depth (made.Array (place_at ts s.at) f.node None) f.name f.own f.height (past t 2) r c.1 in
+        subst (Read how direct s) e
         (record {
           low = omega arith;
           derived =
-              λ d deep. under (Derives how tight s ((made.Array (place_at ts s.at) f.0 None, f.1, f.2, f.3 + 1), past t 2)) f.3 d deep
+              λ d deep. under (Derives how direct s (as_found (made.Array (place_at ts s.at) f.node None) f.name f.own (f.height + 1), past t 2)) f.height d deep
               (λ d deep. p.open_array (inside.derived d deep) opens (stands ts (t.at + 1) _ c.0));
           grows = inside.grows;
         }))
     | inr c ↦ (
-        let (b, found, h1) = bind_some (inner.expression conditional (past t 1)) _ r c.1 in
+        let (b, found, h1) = bind_some (inner.expression (tightness of.Conditional) (past t 1)) _ r c.1 in
         let (closes, h2) = seen ts b.1.at (k.Mark mark.RightBracket) _ r h1 in
-        let (low, e) = joined_parts depth (made.Array (place_at ts s.at) f.0 (Some b.0.0)) f.1 f.2 (max f.3 b.0.1) (past b.1 1) r h2 in
-        let g = sound.expression conditional (past t 1) b.1 b.0.0 b.0.1 found in
-        subst (Read how tight s) e
+        let (low, e) = joined_parts depth (made.Array (place_at ts s.at) f.node (Some b.0.0)) f.name f.own (max f.height b.0.1) (past b.1 1) r h2 in
+        let g = sound.expression (tightness of.Conditional) (past t 1) b.1 b.0.0 b.0.1 found in
+        subst (Read how direct s) e
         (record {
           low = omega arith;
           derived =
-              λ d deep. under (Derives how tight s ((made.Array (place_at ts s.at) f.0 (Some b.0.0), f.1, f.2, max f.3 b.0.1 + 1), past b.1 1)) (max f.3 b.0.1) d deep
+              λ d deep. under (Derives how direct s (as_found (made.Array (place_at ts s.at) f.node (Some b.0.0)) f.name f.own (max f.height b.0.1 + 1), past b.1 1)) (max f.height b.0.1) d deep
               (λ d deep. p.array (inside.derived d (omega arith)) opens (g.derived d (omega arith)) closes);
           grows = grows_on inside.grows g.grows;
         }))
   ]
 
-  function_sound : (how : Naming) (s t : State) (f : FoundDeclarator) (r : FoundDeclarator × State) → Read how tight s (f, t) → IsMark ts t.at mark.LeftParen →
-      step.function_behind text ts inner depth s.at f t ≡ Some r → Read how tight s r
-  unfolding step.function_behind
+  function_sound : (how : Naming) (s t : State) (f : FoundDeclarator) (r : FoundDeclarator × State) → Read how direct s (f, t) → IsMark ts t.at mark.LeftParen →
+      step.function_after text ts inner depth s.at f t ≡ Some r → Read how direct s r
+  unfolding step.function_after
   function_sound how s t f r inside opens h =
       let (b, found, h1) = bind_some (step.parameters_at text ts inner (past t 1)) _ r h in
       let (closes, h2) = seen ts b.1.at (k.Mark mark.RightParen) _ r h1 in
-      let behind : State = record { at = b.1.at + 1; scope = t.scope } in
-      let own = first_of f.2 (new_since t.scope b.1.scope) in
-      let (low, e) = joined_parts depth (made.Function (place_at ts s.at) f.0 b.0.0) f.1 own (max f.3 b.0.1) behind r h2 in
+      let next : State = record { at = b.1.at + 1; scope = t.scope } in
+      let own = first_of f.own (new_since t.scope b.1.scope) in
+      let (low, e) = joined_parts depth (made.Function (place_at ts s.at) f.node b.0.0) f.name own (max f.height b.0.1) next r h2 in
       let g = parameters_sound (past t 1) b found in
       let declared : g.own ≡ new_since t.scope b.1.scope = sym (ap (new_since t.scope) g.declared ∙ own_is g.own t.scope) in
-      subst (Read how tight s) e
+      subst (Read how direct s) e
       (record {
         low = omega arith;
         derived =
-            λ d deep. under (Derives how tight s ((made.Function (place_at ts s.at) f.0 b.0.0, f.1, own, max f.3 b.0.1 + 1), behind)) (max f.3 b.0.1) d deep
+            λ d deep. under (Derives how direct s (as_found (made.Function (place_at ts s.at) f.node b.0.0) f.name own (max f.height b.0.1 + 1), next)) (max f.height b.0.1) d deep
             (λ d deep. p.function (inside.derived d (omega arith)) opens
             (subst (λ l. AreParameters text ts d t.scope l (t.at + 1) b.1.at b.0.0) declared (g.derived d (omega arith))) closes);
         grows = inside.grows;
       })
 
-  parts_sound : (how : Naming) (n : ℕ) (s t : State) (f : FoundDeclarator) (r : FoundDeclarator × State) → Read how tight s (f, t) →
-      step.parts_behind text ts inner depth s.at n f t ≡ Some r → Read how tight s r
-  unfolding step.parts_behind
-  parts_sound how zero s t f r inside h = let e : (f, t) ≡ r = cc in subst (Read how tight s) e inside
+  parts_sound : (how : Naming) (n : ℕ) (s t : State) (f : FoundDeclarator) (r : FoundDeclarator × State) → Read how direct s (f, t) →
+      step.parts_after text ts inner depth s.at n f t ≡ Some r → Read how direct s r
+  unfolding step.parts_after
+  parts_sound how zero s t f r inside h = let e : (f, t) ≡ r = cc in subst (Read how direct s) e inside
   parts_sound how (suc n) s t f r inside h = elim (chosen (mark_at ts t.at mark.LeftBracket) _ _ (Some r) h) [
     | inl c ↦ (
-        let (g, is, h1) = bind_some (step.array_behind text ts inner depth s.at f t) _ r c.1 in
+        let (g, is, h1) = bind_some (step.array_after text ts inner depth s.at f t) _ r c.1 in
         parts_sound how n s g.1 g.0 r (array_sound how s t f g inside (stands ts t.at _ c.0) is) h1)
     | inr c ↦ elim (chosen (mark_at ts t.at mark.LeftParen) _ _ (Some r) c.1) [
       | inl c ↦ (
-          let (g, is, h1) = bind_some (step.function_behind text ts inner depth s.at f t) _ r c.1 in
+          let (g, is, h1) = bind_some (step.function_after text ts inner depth s.at f t) _ r c.1 in
           parts_sound how n s g.1 g.0 r (function_sound how s t f g inside (stands ts t.at _ c.0) is) h1)
-      | inr c ↦ (let e : (f, t) ≡ r = (let i = c.1 in cc) in subst (Read how tight s) e inside)
+      | inr c ↦ (let e : (f, t) ≡ r = (let i = c.1 in cc) in subst (Read how direct s) e inside)
     ]
   ]
 
   -- ---- how it begins
 
-  unnamed_sound : (how : Naming) (s : State) (r : FoundDeclarator × State) → nameless how s ≡ Some r → Read how tight s r
-  unnamed_sound named s r h = absurd cc
-  unnamed_sound named_or_not s r h =
-      let e : ((made.Unnamed, None, None, 0), s) ≡ r = cc in
-      subst (Read named_or_not tight s) e (record { low = omega arith; derived = λ d deep. p.no_name; grows = stays s.scope })
-  unnamed_sound not_named s r h =
-      let e : ((made.Unnamed, None, None, 0), s) ≡ r = cc in
-      subst (Read not_named tight s) e (record { low = omega arith; derived = λ d deep. p.no_name; grows = stays s.scope })
+  unnamed_sound : (how : Naming) (s : State) (r : FoundDeclarator × State) → no_name how s ≡ Some r → Read how direct s r
+  unnamed_sound naming.Named s r h = absurd cc
+  unnamed_sound naming.NamedOrNot s r h =
+      let e : (as_found made.Unnamed None None 0, s) ≡ r = cc in
+      subst (Read naming.NamedOrNot direct s) e (record { low = omega arith; derived = λ d deep. p.no_parameter_name; grows = stays s.scope })
+  unnamed_sound naming.NotNamed s r h =
+      let e : (as_found made.Unnamed None None 0, s) ≡ r = cc in
+      subst (Read naming.NotNamed direct s) e (record { low = omega arith; derived = λ d deep. p.no_name; grows = stays s.scope })
 
-  name_sound : (how : Naming) (s : State) (r : FoundDeclarator × State) → IsName ts s.at → step.named_here text ts depth how s ≡ Some r → Read how tight s r
-  name_sound named s r is h =
-      let (low, e) = joined_parts depth (made.Name (place_at ts s.at) (name_at text ts s.at)) (Some (name_at text ts s.at)) None 0 (past s 1) r h in
-      subst (Read named tight s) e
+  name_read : (how : Naming) (s : State) (r : FoundDeclarator × State) → step.name_here text ts depth s ≡ Some r →
+      ((d : ℕ) → Derives how direct s (as_found (made.Name (place_at ts s.at)) (Some (name_at text ts s.at)) None 1, past s 1) (suc d)) → Read how direct s r
+  name_read how s r h derived =
+      let (low, e) = joined_parts depth (made.Name (place_at ts s.at)) (Some (name_at text ts s.at)) None 0 (past s 1) r h in
+      subst (Read how direct s) e
       (record {
         low = omega arith;
         derived =
-            λ d deep. under (Derives named tight s ((made.Name (place_at ts s.at) (name_at text ts s.at), Some (name_at text ts s.at), None, 1), past s 1)) 0 d deep
-            (λ d deep. p.declared_name is);
+            λ d deep. under (Derives how direct s (as_found (made.Name (place_at ts s.at)) (Some (name_at text ts s.at)) None 1, past s 1)) 0 d deep
+            (λ d deep. derived d);
         grows = stays s.scope;
       })
-  name_sound named_or_not s r is h =
-      let (low, e) = joined_parts depth (made.Name (place_at ts s.at) (name_at text ts s.at)) (Some (name_at text ts s.at)) None 0 (past s 1) r h in
-      subst (Read named_or_not tight s) e
-      (record {
-        low = omega arith;
-        derived =
-            λ d deep. under (Derives named_or_not tight s ((made.Name (place_at ts s.at) (name_at text ts s.at), Some (name_at text ts s.at), None, 1), past s 1)) 0 d deep
-            (λ d deep. p.parameter_name is);
-        grows = stays s.scope;
-      })
-  name_sound not_named s r is h = unnamed_sound not_named s r h
+
+  name_sound : (how : Naming) (s : State) (r : FoundDeclarator × State) → IsName ts s.at → step.name_or_nothing text ts depth how s ≡ Some r → Read how direct s r
+  name_sound naming.Named s r is h = name_read naming.Named s r h (λ d. p.declared_name is)
+  name_sound naming.NamedOrNot s r is h = name_read naming.NamedOrNot s r h (λ d. p.parameter_name is)
+  name_sound naming.NotNamed s r is h = unnamed_sound naming.NotNamed s r h
 
   -- something stands in the parentheses
   later : (from to : ℕ) → kind_at ts from ≢ Some (k.Mark mark.RightParen) → from ≤ to → IsMark ts to mark.RightParen → from < to
@@ -292,59 +293,57 @@ module _ (text : List ℕ) (ts : List Token) (depth : ℕ) (inner : Readers) (so
     | inr l ↦ l
   ]
 
-  some_inside : {form : Form} {from to : ℕ} → BeginsDeclarator ts form loose from to → from ≤ to → IsMark ts to mark.RightParen →
-      (form ≡ unnamed → mark_at ts from mark.RightParen ≡ false) → from < to
-  some_inside (nothing {at}) low closes none = absurd (let h = none refl in let i = here ts at _ closes in cc)
+  some_inside : {how : Naming} {from to : ℕ} → BeginsDeclarator ts how whole from to → from ≤ to → IsMark ts to mark.RightParen →
+      (may_leave_out how ≡ true → mark_at ts from mark.RightParen ≡ false) → from < to
+  some_inside (nothing {at} out) low closes none = absurd (let h = none out in let i = here ts at _ closes in cc)
   some_inside {from} {to} (star is) low closes none = later from to (λ h. cc) low closes
   some_inside {from} {to} (opening is) low closes none = later from to (λ h. cc) low closes
   some_inside {from} {to} (bracket is) low closes none = later from to (λ h. cc) low closes
   some_inside {from} {to} (a_name is) low closes none = later from to (λ h. cc) low closes
   some_inside {from} {to} (a_parameter is) low closes none = later from to (λ h. cc) low closes
 
-  -- what stands behind `(` begins no list of parameters
-  record Encloses (how : Naming) (name : Option Name) (s : State) : Type 0 where
-    may : MayEnclose text ts (form_of how name) s.scope (s.at + 1)
-    some : form_of how name ≡ unnamed → mark_at ts (s.at + 1) mark.RightParen ≡ false
+  -- what stands after `(` begins no list of parameters
+  record Encloses (how : Naming) (s : State) : Type 0 where
+    may : MayEnclose text ts how s.scope (s.at + 1)
+    some : may_leave_out how ≡ true → mark_at ts (s.at + 1) mark.RightParen ≡ false
 
-  may_enclose : (how : Naming) (name : Option Name) (s : State) → opens_parameters text ts how s ≡ false → Encloses how name s
-  may_enclose named name s h = record { may = where_one_is_declared; some = λ e. absurd cc }
-  may_enclose named_or_not (Some name) s h =
+  may_enclose : (how : Naming) (s : State) → opens_parameters text ts how s ≡ false → Encloses how s
+  may_enclose naming.Named s h = record { may = with_a_name; some = λ e. absurd cc }
+  may_enclose naming.NamedOrNot s h =
       let (a, b) = neither (mark_at ts (s.at + 1) mark.RightParen) (begins_specs text ts s.scope (s.at + 1)) h in
       record { may = in_a_parameter (λ is known. let c = type_begins text ts s.scope (s.at + 1) is known in cc); some = λ e. a }
-  may_enclose named_or_not None s h =
-      record { may = without_a_name; some = λ e. (neither (mark_at ts (s.at + 1) mark.RightParen) (begins_specs text ts s.scope (s.at + 1)) h).0 }
-  may_enclose not_named name s h =
+  may_enclose naming.NotNamed s h =
       record { may = without_a_name; some = λ e. (neither (mark_at ts (s.at + 1) mark.RightParen) (begins_specs text ts s.scope (s.at + 1)) h).0 }
 
-  enclosed_sound : (how : Naming) (s : State) (r : FoundDeclarator × State) → IsMark ts s.at mark.LeftParen → opens_parameters text ts how s ≡ false →
-      step.enclosed_here text ts inner how s ≡ Some r → Read how tight s r
-  unfolding step.enclosed_here
-  enclosed_sound how s r opens other h =
+  parentheses_sound : (how : Naming) (s : State) (r : FoundDeclarator × State) → IsMark ts s.at mark.LeftParen → opens_parameters text ts how s ≡ false →
+      step.parentheses_here text ts inner how s ≡ Some r → Read how direct s r
+  unfolding step.parentheses_here
+  parentheses_sound how s r opens other h =
       let (a, found, h1) = bind_some (inner.declarator how (past s 1)) _ r h in
       let (closes, h2) = seen ts a.1.at (k.Mark mark.RightParen) _ r h1 in
-      let f = sound.declarator how (past s 1) a.1 a.0.0 a.0.1 a.0.2 a.0.3 found in
+      let f = sound.declarator how (past s 1) a.1 a.0 found in
       let low = f.low in
-      let within = may_enclose how a.0.1 s other in
-      let whole = f.derived a.0.3 (omega arith) in
+      let within = may_enclose how s other in
+      let whole = f.derived a.0.height (omega arith) in
       let some = some_inside (declarator_begins ts text whole) (declarator_moves text ts whole) closes within.some in
-      let e : ((made.Parentheses (place_at ts s.at) a.0.0, a.0.1, a.0.2, a.0.3 + 1), past a.1 1) ≡ r = cc in
-      subst (Read how tight s) e
+      let e : (as_found (made.Parentheses (place_at ts s.at) a.0.node) a.0.name a.0.own (a.0.height + 1), past a.1 1) ≡ r = cc in
+      subst (Read how direct s) e
       (record {
         low = omega arith;
         derived =
-            λ d deep. under (Derives how tight s ((made.Parentheses (place_at ts s.at) a.0.0, a.0.1, a.0.2, a.0.3 + 1), past a.1 1)) a.0.3 d deep
-            (λ d deep. p.enclosed opens within.may (f.derived d deep) some closes);
+            λ d deep. under (Derives how direct s (as_found (made.Parentheses (place_at ts s.at) a.0.node) a.0.name a.0.own (a.0.height + 1), past a.1 1)) a.0.height d deep
+            (λ d deep. p.in_parentheses opens within.may (f.derived d deep) some closes);
         grows = f.grows;
       })
 
-  head_sound : (how : Naming) (s : State) (r : FoundDeclarator × State) → step.head text ts inner depth how s ≡ Some r → Read how tight s r
-  unfolding step.head
+  head_sound : (how : Naming) (s : State) (r : FoundDeclarator × State) → step.innermost text ts inner depth how s ≡ Some r → Read how direct s r
+  unfolding step.innermost
   head_sound how s r h = elim (chosen (sees ts s.at k.Name) _ _ (Some r) h) [
     | inl c ↦ name_sound how s r (stands ts s.at _ c.0) c.1
     | inr c ↦ elim (chosen (mark_at ts s.at mark.LeftParen) _ _ (Some r) c.1) [
       | inl c ↦ elim (chosen (opens_parameters text ts how s) _ _ (Some r) c.1) [
         | inl o ↦ unnamed_sound how s r o.1
-        | inr o ↦ enclosed_sound how s r (stands ts s.at _ c.0) o.0 o.1
+        | inr o ↦ parentheses_sound how s r (stands ts s.at _ c.0) o.0 o.1
       ]
       | inr c ↦ unnamed_sound how s r c.1
     ]
@@ -352,49 +351,50 @@ module _ (text : List ℕ) (ts : List Token) (depth : ℕ) (inner : Readers) (so
 
   -- ---- the whole
 
-  loosen : {form : Form} {d from to : ℕ} {scope after : Scope} {name : Option Name} {own : Option Scope} {node : Declarator} →
-      IsDeclarator text ts form tight d scope after from to name own node → IsDeclarator text ts form loose d scope after from to name own node
+  loosen : {how : Naming} {d from to : ℕ} {scope after : Scope} {name : Option Name} {own : Option Scope} {node : Declarator} →
+      IsDeclarator text ts how direct d scope after from to name own node → IsDeclarator text ts how whole d scope after from to name own node
   loosen (p.declared_name is) = p.declared_name is
   loosen (p.parameter_name is) = p.parameter_name is
   loosen p.no_name = p.no_name
-  loosen (p.enclosed opens may a some closes) = p.enclosed opens may a some closes
+  loosen p.no_parameter_name = p.no_parameter_name
+  loosen (p.in_parentheses opens may a some closes) = p.in_parentheses opens may a some closes
   loosen (p.open_array a opens closes) = p.open_array a opens closes
   loosen (p.array a opens b closes) = p.array a opens b closes
   loosen (p.function a opens all closes) = p.function a opens all closes
 
   pointer_sound : (how : Naming) (s : State) (r : FoundDeclarator × State) → IsMark ts s.at mark.Star → step.pointer_here text ts inner how s ≡ Some r →
-      Read how loose s r
+      Read how whole s r
   unfolding step.pointer_here
   pointer_sound how s r is h =
       let z = step.qualifiers ts (length ts) [] (past s 1) in
       let q = qualifiers_sound ts (length ts) [] (past s 1) in
       let (a, found, h1) = bind_some (inner.declarator how z.1) _ r h in
-      let f = sound.declarator how z.1 a.1 a.0.0 a.0.1 a.0.2 a.0.3 found in
+      let f = sound.declarator how z.1 a.1 a.0 found in
       let low = f.low in
-      let e : ((made.Pointer (place_at ts s.at) z.0 a.0.0, a.0.1, a.0.2, a.0.3 + 1), a.1) ≡ r = cc in
-      subst (Read how loose s) e
+      let e : (as_found (made.Pointer (place_at ts s.at) z.0 a.0.node) a.0.name a.0.own (a.0.height + 1), a.1) ≡ r = cc in
+      subst (Read how whole s) e
       (record {
         low = omega arith;
         derived =
-            λ d deep. under (Derives how loose s ((made.Pointer (place_at ts s.at) z.0 a.0.0, a.0.1, a.0.2, a.0.3 + 1), a.1)) a.0.3 d deep
+            λ d deep. under (Derives how whole s (as_found (made.Pointer (place_at ts s.at) z.0 a.0.node) a.0.name a.0.own (a.0.height + 1), a.1)) a.0.height d deep
             (λ d deep. p.pointer is (subst (λ l. AreQualifiers ts (s.at + 1) z.1.at l) (sym q.all) q.each)
-            (subst (λ l. IsDeclarator text ts (form_of how a.0.1) loose d l a.1.scope z.1.at a.1.at a.0.1 a.0.2 a.0.0) q.same (f.derived d deep)));
+            (subst (λ l. IsDeclarator text ts how whole d l a.1.scope z.1.at a.1.at a.0.name a.0.own a.0.node) q.same (f.derived d deep)));
         grows = subst (λ l. Grows l a.1.scope) q.same f.grows;
       })
 
-  declarator_sound : (how : Naming) (s : State) (r : FoundDeclarator × State) → step.declarator text ts inner depth how s ≡ Some r → Read how loose s r
+  declarator_sound : (how : Naming) (s : State) (r : FoundDeclarator × State) → step.declarator text ts inner depth how s ≡ Some r → Read how whole s r
   unfolding step.declarator
   declarator_sound how s r h = elim (chosen (mark_at ts s.at mark.Star) _ _ (Some r) h) [
     | inl c ↦ pointer_sound how s r (stands ts s.at _ c.0) c.1
     | inr c ↦ (
-        let (f, is, h1) = bind_some (step.head text ts inner depth how s) _ r c.1 in
+        let (f, is, h1) = bind_some (step.innermost text ts inner depth how s) _ r c.1 in
         let g = parts_sound how depth s f.1 f.0 r (head_sound how s f is) h1 in
         record { low = g.low; derived = λ d deep. loosen (g.derived d deep); grows = g.grows })
   ]
 
   pub sound_declarator : SoundDeclarator text ts depth (step.declarator text ts inner depth)
   sound_declarator = record {
-    low = λ how s t found name own height h. (declarator_sound how s ((found, name, own, height), t) h).low;
-    derived = λ how d s t found name own height h deep. (declarator_sound how s ((found, name, own, height), t) h).derived d deep;
-    grows = λ how s t found name own height h. (declarator_sound how s ((found, name, own, height), t) h).grows;
+    low = λ how s t found h. (declarator_sound how s (found, t) h).low;
+    derived = λ how d s t found h deep. (declarator_sound how s (found, t) h).derived d deep;
+    grows = λ how s t found h. (declarator_sound how s (found, t) h).grows;
   }

@@ -4,17 +4,21 @@ use Rattle.c_tokens.specs.declared.token.Token.{Token}
 use Rattle.c_tokens.specs.declared.kind.Kind.{Kind}
 use Rattle.c_tokens.specs.declared.kind.Kind.TheVariants as k
 use Rattle.c_tokens.specs.declared.kind.Mark.TheVariants as mark
+use Rattle.c_grammar.specs.declared.words.Naming.TheVariants as naming
+use Rattle.c_grammar.specs.declared.words.Naming.{Naming}
 use Rattle.c_grammar.specs.declared.words.Prefix.{Prefix}
 use Rattle.c_grammar.specs.declared.words.Prefix.TheVariants as prefix
 use Rattle.c_grammar.specs.declared.phrases.Expression.{Expression}
-use Rattle.c_grammar.specs.declared.phrases.TypeName.{TypeName}
+use Rattle.c_grammar.specs.declared.phrases.TypePhrase.{TypePhrase}
 use Rattle.c_grammar.specs.declared.phrases.Declarator.{Declarator}
 use Rattle.c_grammar.specs.Tokens as t
-use Rattle.c_grammar.specs.Tokens.{Name, kind_at, name_at, IsMark, AreStrings}
+use Rattle.c_tokens.specs.Names.{Name}
+use Rattle.token_texts.specs.Names.{name_at}
+use Rattle.c_grammar.specs.Tokens.{kind_at, IsMark, AreStrings}
 use Rattle.c_grammar.specs.Operators.{prefix_mark}
 use Rattle.c_grammar.specs.Scope.{Scope}
 use Rattle.c_grammar.specs.Phrases as p
-use Rattle.c_grammar.specs.Phrases.{IsExpression, AreExpressions, IsTypeName, IsDeclarator, Form, unnamed, Grip}
+use Rattle.c_grammar.specs.Phrases.{IsExpression, AreExpressions, IsTypeName, IsDeclarator, DeclaratorKind}
 use Rattle.grammar_descent.specs.Follow.{ends_specs}
 use Rattle.grammar_descent.specs.Types.{names_a_type, begins_specs, begins_specs_by}
 use Rattle.grammar_descent.proofs.Types.{type_missed, specs_begin}
@@ -56,8 +60,8 @@ module _ (text : List ℕ) (ts : List Token) where
   no_specs (p.size_of_type {from} {scope} low is opens type closes) = plain scope from _ (λ known. refl) is
   no_specs (p.cast_to {from} {scope} low is type closes a) = plain scope from _ (λ known. refl) is
   no_specs (p.binary op low a is b) = no_specs a
-  no_specs (p.choice low a is b also c) = no_specs a
-  no_specs (p.assign op low a is b) = no_specs a
+  no_specs (p.conditional low a is b also c) = no_specs a
+  no_specs (p.assignment op low a is b) = no_specs a
   no_specs (p.comma low a is all) = no_specs a
 
   prefix_open : (op : Prefix) → (prefix_mark op ≢ mark.RightParen) × (prefix_mark op ≢ mark.LeftParen)
@@ -82,8 +86,8 @@ module _ (text : List ℕ) (ts : List Token) where
   no_close (p.size_of_type low is opens type closes) h = cc
   no_close (p.cast_to low is type closes a) h = cc
   no_close (p.binary op low a is b) h = no_close a h
-  no_close (p.choice low a is b also c) h = no_close a h
-  no_close (p.assign op low a is b) h = no_close a h
+  no_close (p.conditional low a is b also c) h = no_close a h
+  no_close (p.assignment op low a is b) h = no_close a h
   no_close (p.comma low a is all) h = no_close a h
 
   -- from the level of unary expressions on, a parenthesis that comes first begins no cast
@@ -104,13 +108,13 @@ module _ (text : List ℕ) (ts : List Token) where
   no_cast (p.size_of_type low is opens type closes) high h = absurd cc
   no_cast (p.cast_to low is type closes a) high h = absurd (omega arith)
   no_cast (p.binary op low a is b) high h = absurd (let r = rank_within op in omega arith)
-  no_cast (p.choice low a is b also c) high h = absurd (omega arith)
-  no_cast (p.assign op low a is b) high h = absurd (omega arith)
+  no_cast (p.conditional low a is b also c) high h = absurd (omega arith)
+  no_cast (p.assignment op low a is b) high h = absurd (omega arith)
   no_cast (p.comma low a is all) high h = absurd (omega arith)
 
   -- ---- names of types
 
-  pub type_name_begins : {limit from to : ℕ} {scope after : Scope} {type : TypeName} → IsTypeName text ts limit scope after from to type →
+  pub type_name_begins : {limit from to : ℕ} {scope after : Scope} {type : TypePhrase} → IsTypeName text ts limit scope after from to type →
       begins_specs text ts scope from ≡ true
   type_name_begins (p.type_name held declarator) = specs_begin text ts held
 
@@ -118,25 +122,27 @@ module _ (text : List ℕ) (ts : List Token) where
   mark_ends_specs at kind is ends = rw is ends
 
   -- specifiers end before a declarator without a name
-  pub specs_end : {form : Form} {grip : Grip} {limit from to : ℕ} {scope after : Scope} {name : Option Name} {own : Option Scope} {found : Declarator} →
-      IsDeclarator text ts form grip limit scope after from to name own found → ends_specs (kind_at ts to) ≡ true → ends_specs (kind_at ts from) ≡ true
+  pub specs_end : {how : Naming} {kind : DeclaratorKind} {limit from to : ℕ} {scope after : Scope} {name : Option Name} {own : Option Scope} {found : Declarator} →
+      IsDeclarator text ts how kind limit scope after from to name own found → ends_specs (kind_at ts to) ≡ true → ends_specs (kind_at ts from) ≡ true
   specs_end (p.declared_name {from} is) ends = mark_ends_specs from _ is refl
   specs_end (p.parameter_name {from} is) ends = mark_ends_specs from _ is refl
   specs_end p.no_name ends = ends
+  specs_end p.no_parameter_name ends = ends
   specs_end (p.pointer {from} is all a) ends = mark_ends_specs from _ is refl
-  specs_end (p.enclosed {from} is may a some closes) ends = mark_ends_specs from _ is refl
+  specs_end (p.in_parentheses {from} is may a some closes) ends = mark_ends_specs from _ is refl
   specs_end (p.open_array {at} a is closes) ends = specs_end a (mark_ends_specs at _ is refl)
   specs_end (p.array {at} a is size closes) ends = specs_end a (mark_ends_specs at _ is refl)
   specs_end (p.function {at} a is all closes) ends = specs_end a (mark_ends_specs at _ is refl)
 
   -- a declarator without a name declares none
-  pub declares_none : {form : Form} {grip : Grip} {limit from to : ℕ} {scope after : Scope} {name : Option Name} {own : Option Scope} {found : Declarator} →
-      IsDeclarator text ts form grip limit scope after from to name own found → form ≡ unnamed → name ≡ None
+  pub declares_none : {how : Naming} {kind : DeclaratorKind} {limit from to : ℕ} {scope after : Scope} {name : Option Name} {own : Option Scope} {found : Declarator} →
+      IsDeclarator text ts how kind limit scope after from to name own found → how ≡ naming.NotNamed → name ≡ None
   declares_none (p.declared_name is) h = absurd cc
   declares_none (p.parameter_name is) h = absurd cc
   declares_none p.no_name h = refl
+  declares_none p.no_parameter_name h = refl
   declares_none (p.pointer is all a) h = declares_none a h
-  declares_none (p.enclosed is may a some closes) h = declares_none a h
+  declares_none (p.in_parentheses is may a some closes) h = declares_none a h
   declares_none (p.open_array a is closes) h = declares_none a h
   declares_none (p.array a is size closes) h = declares_none a h
   declares_none (p.function a is all closes) h = declares_none a h

@@ -9,11 +9,11 @@ use Rattle.c_tokens.specs.declared.token.Token.{Token}
 use Rattle.c_grammar.specs.declared.words.Prefix.{Prefix}
 use Rattle.c_grammar.specs.declared.phrases.Expression.{Expression}
 use Rattle.c_grammar.specs.Tokens as t
-use Rattle.c_grammar.specs.Tokens.{Name, kind_at, place_at, name_at, IsMark, IsWord, IsName, IsString, AreStrings}
+use Rattle.c_grammar.specs.Tokens.{kind_at, place_at, IsMark, IsWord, IsName, IsString, AreStrings}
 use Rattle.c_grammar.specs.Scope.{Scope}
 use Rattle.c_grammar.specs.Operators.{binary_mark, assignment_mark, prefix_mark, postfix_mark, selection_mark}
 use Rattle.c_grammar.specs.Phrases as p
-use Rattle.c_grammar.specs.Phrases.{IsExpression, AreExpressions, IsTypeName, IsDeclarator, unnamed, loose}
+use Rattle.c_grammar.specs.Phrases.{IsExpression, AreExpressions, IsTypeName, IsDeclarator, whole}
 use Rattle.grammar_descent.specs.declared.growing.Growth.{Growth}
 use Rattle.grammar_descent.specs.declared.growing.Growth.TheVariants as growth
 use Rattle.grammar_descent.specs.Reading.{sees}
@@ -31,14 +31,14 @@ grows-trans one two three a b = record { new = b.new ++ a.new; is = b.is ∙ ap 
 
 -- ---- marks
 
--- the mark that stands behind what grows so
+-- the mark that stands after what grows so
 abbrev pub mark_of : Growth → Mark
 mark_of growth.Index = mark.LeftBracket
 mark_of growth.Call = mark.LeftParen
 mark_of (growth.Select how) = selection_mark how
 mark_of (growth.Postfix op) = postfix_mark op
 mark_of (growth.Binary op) = binary_mark op
-mark_of growth.Choice = mark.Question
+mark_of growth.Conditional = mark.Question
 mark_of (growth.Assign op) = assignment_mark op
 mark_of growth.Comma = mark.Comma
 
@@ -83,8 +83,8 @@ module _ (text : List ℕ) (ts : List Token) where
   lower (p.size_of_type low is opens type closes) least h = p.size_of_type (omega arith) is opens type closes
   lower (p.cast_to low is type closes a) least h = p.cast_to (omega arith) is type closes a
   lower (p.binary op low a is b) least h = p.binary op (omega arith) a is b
-  lower (p.choice low a is b also c) least h = p.choice (omega arith) a is b also c
-  lower (p.assign op low a is b) least h = p.assign op (omega arith) a is b
+  lower (p.conditional low a is b also c) least h = p.conditional (omega arith) a is b also c
+  lower (p.assignment op low a is b) least h = p.assignment op (omega arith) a is b
   lower (p.comma low a is all) least h = p.comma (omega arith) a is all
 
   pub strings_read : (n at : ℕ) → IsString ts at → AreStrings ts at (past_strings ts n (at + 1))

@@ -3,6 +3,9 @@ use Rattle.std.proofs.Common.{◌≡◌, ◌≢◌, ℕ, zero, suc, ◌+◌, ◌
 use Rattle.c_tokens.specs.declared.token.Token.{Token}
 use Rattle.c_tokens.specs.declared.kind.Kind.TheVariants as k
 use Rattle.c_tokens.specs.declared.kind.Mark.TheVariants as mark
+use Rattle.c_grammar.specs.declared.words.Naming.TheVariants as naming
+use Rattle.c_grammar.specs.declared.words.Level.TheVariants as of
+use Rattle.c_grammar.specs.declared.words.NameKind.{NameKind}
 use Rattle.c_grammar.specs.declared.phrases.Expression.{Expression}
 use Rattle.c_grammar.specs.declared.phrases.Specs.{Specs}
 use Rattle.c_grammar.specs.declared.phrases.Declarator.{Declarator}
@@ -10,24 +13,28 @@ use Rattle.c_grammar.specs.declared.statements.Initialiser.{Initialiser}
 use Rattle.c_grammar.specs.declared.statements.Initialiser.TheVariants as i
 use Rattle.c_grammar.specs.declared.statements.InitDeclarator.{InitDeclarator}
 use Rattle.c_grammar.specs.declared.statements.Declaration.{Declaration}
-use Rattle.c_grammar.specs.Tokens.{Name, kind_at, place_at, IsMark, ClosesList, brace, comma_and_brace}
+use Rattle.c_tokens.specs.Names.{Name}
+use Rattle.c_grammar.specs.Tokens.{kind_at, place_at, IsMark, ClosesList, brace, comma_and_brace}
 use Rattle.c_grammar.specs.Words.{Role}
-use Rattle.c_grammar.specs.Scope.{Scope, Use, use_of}
-use Rattle.c_grammar.specs.Operators.{assigned}
-use Rattle.c_grammar.specs.Phrases.{IsExpression, IsSpecs, IsDeclarator, declares, loose}
+use Rattle.c_grammar.specs.Scope.{Scope, declared_kind}
+use Rattle.c_grammar.specs.Operators.{tightness}
+use Rattle.c_grammar.specs.Phrases.{IsExpression, IsSpecs, IsDeclarator, whole}
 use Rattle.c_grammar.specs.Initialisers as g
 use Rattle.c_grammar.specs.Initialisers.{IsInitialiser, AreInitialisers, IsInitDeclarator, AreInitDeclarators, IsDeclaration}
-use Rattle.grammar_descent.specs.Reading.{State, Reading, ◌>>=◌, named, Readers}
+use Rattle.grammar_descent.specs.Reading.{State, Reading, ◌>>=◌, Readers}
 use Rattle.grammar_descent.specs.Follow.{ends, ends_specs, ends_declarator}
-use Rattle.grammar_descent.specs.Exact.{Exact, for_one}
+use Rattle.grammar_descent.specs.Exact.{Exact}
 use Rattle.grammar_descent.specs.InitialiserSteps as step
-use Rattle.grammar_descent.specs.InitialiserSteps.{Declared, declare}
+use Rattle.grammar_descent.specs.InitialiserSteps.{NamedDeclarator, declare}
 use Rattle.grammar_descent.proofs.Seen.{here, not_here, instead, stands_within}
 use Rattle.grammar_descent.proofs.Moves.{expression_moves, specs_move, closing_moves}
 use Rattle.grammar_descent.proofs.Starts.{expression_instead, named_moves, specs_end, no_semicolon}
 
 abbrev pub state : ℕ → Scope → State
 state at scope = record { at = at; scope = scope }
+
+abbrev pub with_name_found : Declarator → Name → Option Scope → NamedDeclarator
+with_name_found node name own = record { node = node; name = name; own = own }
 
 -- ---- tokens are taken
 
@@ -42,12 +49,12 @@ module _ {text : List ℕ} {ts : List Token} where
     initialisers_move (g.last_initialiser is) = let i = initialiser_moves is in omega arith
     initialisers_move (g.more_initialisers is comma rest) = let i = initialiser_moves is in let j = initialisers_move rest in omega arith
 
-  pub init_declarator_moves : {depth from to : ℕ} {what : Use} {scope after : Scope} {d : InitDeclarator} →
+  pub init_declarator_moves : {depth from to : ℕ} {what : NameKind} {scope after : Scope} {d : InitDeclarator} →
       IsInitDeclarator text ts depth what scope after from to d → from < to
   init_declarator_moves (g.without_value is) = named_moves is
   init_declarator_moves (g.with_value is equal v) = let i = named_moves is in let j = initialiser_moves v in omega arith
 
-  pub init_declarators_move : {depth from to : ℕ} {what : Use} {scope after : Scope} {all : List InitDeclarator} →
+  pub init_declarators_move : {depth from to : ℕ} {what : NameKind} {scope after : Scope} {all : List InitDeclarator} →
       AreInitDeclarators text ts depth what scope after from to all → from + length all ≤ to
   init_declarators_move (g.last is) = let i = init_declarator_moves is in omega arith
   init_declarators_move (g.more is comma rest) = let i = init_declarator_moves is in let j = init_declarators_move rest in omega arith
@@ -56,7 +63,7 @@ module _ {text : List ℕ} {ts : List Token} where
   declaration_moves (g.of_no_name is ends) = let i = specs_move text ts is in omega arith
   declaration_moves (g.of_names is all ends) = let i = specs_move text ts is in let j = init_declarators_move all in omega arith
 
-  pub names_begin : {d from to : ℕ} {what : Use} {scope after : Scope} {all : List InitDeclarator} → AreInitDeclarators text ts d what scope after from to all →
+  pub names_begin : {d from to : ℕ} {what : NameKind} {scope after : Scope} {all : List InitDeclarator} → AreInitDeclarators text ts d what scope after from to all →
       (ends_specs (kind_at ts from) ≡ true) × (kind_at ts from ≢ Some (k.Mark mark.Semicolon))
   names_begin (g.last (g.without_value is)) = (specs_end is, no_semicolon is)
   names_begin (g.last (g.with_value is equal v)) = (specs_end is, no_semicolon is)
@@ -76,25 +83,25 @@ module _ {text : List ℕ} {ts : List Token} where
 
 module _ (ts : List Token) (phrases : ℕ → Readers) where
   -- the declarator of a name, and what is declared with it
-  pub record IsRead (depth : ℕ) (what : Use) (s : State) (d : InitDeclarator) (t : State) : Type 0 where
-    pub first : Declared × State
-    pub is : step.declarator ts phrases depth s ≡ Some first
-    pub rest : step.initialised ts phrases depth what s.at first ≡ Some (d, t)
+  pub record IsRead (depth : ℕ) (what : NameKind) (s : State) (d : InitDeclarator) (t : State) : Type 0 where
+    pub first : NamedDeclarator × State
+    pub is : step.named_declarator ts phrases depth s ≡ Some first
+    pub rest : step.with_initialiser ts phrases depth what s.at first ≡ Some (d, t)
     pub no_body : kind_at ts first.1.at ≢ Some (k.Mark mark.LeftBrace)
 
   -- the declarator of a first name, and all that is declared with it
-  pub record AreRead (depth : ℕ) (what : Use) (s : State) (all : List InitDeclarator) (t : State) : Type 0 where
-    pub first : Declared × State
-    pub is : step.declarator ts phrases depth s ≡ Some first
+  pub record AreRead (depth : ℕ) (what : NameKind) (s : State) (all : List InitDeclarator) (t : State) : Type 0 where
+    pub first : NamedDeclarator × State
+    pub is : step.named_declarator ts phrases depth s ≡ Some first
     pub rest : step.init_declarators ts phrases depth what s.at first ≡ Some (all, t)
     pub no_body : kind_at ts first.1.at ≢ Some (k.Mark mark.LeftBrace)
 
-closing_ends : {ts : List Token} {at to : ℕ} → ClosesList ts at to → ends assigned (kind_at ts at) ≡ true
+closing_ends : {ts : List Token} {at to : ℕ} → ClosesList ts at to → ends (tightness of.Assignment) (kind_at ts at) ≡ true
 closing_ends (brace is) = rw is refl
 closing_ends (comma_and_brace is after) = rw is refl
 
 separated : (ts : List Token) (at : ℕ) → IsMark ts at mark.Comma ⊎ IsMark ts at mark.Semicolon →
-    (ends assigned (kind_at ts at) ≡ true) × (ends_declarator (kind_at ts at) ≡ true) × (kind_at ts at ≢ Some (k.Mark mark.Equal)) × (kind_at ts at ≢ Some (k.Mark mark.LeftBrace))
+    (ends (tightness of.Assignment) (kind_at ts at) ≡ true) × (ends_declarator (kind_at ts at) ≡ true) × (kind_at ts at ≢ Some (k.Mark mark.Equal)) × (kind_at ts at ≢ Some (k.Mark mark.LeftBrace))
 separated ts at (inl is) = (rw is refl, rw is refl, λ h. cc, λ h. cc)
 separated ts at (inr is) = (rw is refl, rw is refl, λ h. cc, λ h. cc)
 
@@ -104,17 +111,17 @@ closing_within {ts} (comma_and_brace {at} is after) = stands_within ts at _ is
 
 module _ (text : List ℕ) (ts : List Token) (phrases : ℕ → Readers) (exact : (d : ℕ) → Exact text ts d (phrases d)) where
   pub finds_expression : {d level from to : ℕ} {scope after : Scope} {e : Expression} → IsExpression text ts d level scope after from to e →
-      (depth : ℕ) → d ≤ depth → ends level (kind_at ts to) ≡ true → step.expression ts phrases depth level (state from scope) ≡ Some (e, state to after)
-  unfolding step.expression
+      (depth : ℕ) → d ≤ depth → ends level (kind_at ts to) ≡ true → step.expression_at ts phrases depth level (state from scope) ≡ Some (e, state to after)
+  unfolding step.expression_at
   finds_expression {d} {level} {from} {to} {scope} {after} {e} is depth low closes =
       let f = (exact depth).expression_complete level d (state from scope) (state to after) e low is closes in rw f.is refl
 
   pub finds_declarator : {d from to : ℕ} {scope after : Scope} {name : Name} {own : Option Scope} {found : Declarator} →
-      IsDeclarator text ts declares loose d scope after from to (Some name) own found → (depth : ℕ) → d ≤ depth → ends_declarator (kind_at ts to) ≡ true →
-      step.declarator ts phrases depth (state from scope) ≡ Some ((found, name, own), state to after)
-  unfolding step.declarator
+      IsDeclarator text ts naming.Named whole d scope after from to (Some name) own found → (depth : ℕ) → d ≤ depth → ends_declarator (kind_at ts to) ≡ true →
+      step.named_declarator ts phrases depth (state from scope) ≡ Some (with_name_found found name own, state to after)
+  unfolding step.named_declarator
   finds_declarator {d} {from} {to} {scope} {after} {name} {own} {found} is depth low closes =
-      let f = (exact depth).declarator_complete named declares d (state from scope) (state to after) found (Some name) own for_one low is closes in rw f.is refl
+      let f = (exact depth).declarator_complete naming.Named d (state from scope) (state to after) found (Some name) own low is closes in rw f.is refl
 
   -- ---- initialisers
 
@@ -124,7 +131,7 @@ module _ (text : List ℕ) (ts : List Token) (phrases : ℕ → Readers) (exact 
   initialiser-value zero from scope other = rw (not_here ts from _ other) refl
   initialiser-value (suc depth) from scope other = rw (not_here ts from _ other) refl
 
-  value_is : (depth from to : ℕ) (scope after : Scope) (e : Expression) → step.expression ts phrases depth assigned (state from scope) ≡ Some (e, state to after) →
+  value_is : (depth from to : ℕ) (scope after : Scope) (e : Expression) → step.expression_at ts phrases depth (tightness of.Assignment) (state from scope) ≡ Some (e, state to after) →
       step.value ts phrases depth (state from scope) ≡ Some (i.Value e, state to after)
   unfolding step.value
   value_is depth from to scope after e found = rw found refl
@@ -157,7 +164,7 @@ module _ (text : List ℕ) (ts : List Token) (phrases : ℕ → Readers) (exact 
 
   mutual
     pub finds_initialiser : {d from to : ℕ} {scope after : Scope} {v : Initialiser} → IsInitialiser text ts d scope after from to v →
-        (depth : ℕ) → d ≤ depth → ends assigned (kind_at ts to) ≡ true → step.initialiser ts phrases depth (state from scope) ≡ Some (v, state to after)
+        (depth : ℕ) → d ≤ depth → ends (tightness of.Assignment) (kind_at ts to) ≡ true → step.initialiser ts phrases depth (state from scope) ≡ Some (v, state to after)
     finds_initialiser (g.value {depth = d} {from} {to} {scope} {after} {e} is) depth low closes =
         initialiser-value depth from scope (expression_instead is (k.Mark mark.LeftBrace) refl)
         ∙ value_is depth from to scope after e (finds_expression is depth low closes)
@@ -173,117 +180,117 @@ module _ (text : List ℕ) (ts : List Token) (phrases : ℕ → Readers) (exact 
     finds_initialisers (g.last_initialiser {from} {to} {scope} {after} {only} is) depth low closes (suc n) found room =
         closed (step.initialiser ts phrases depth) n found only (state from scope) to after (finds_initialiser is depth low (closing_ends closes)) closes
     finds_initialisers (g.more_initialisers is comma rest) depth low closes zero found room = absurd (omega arith)
-    finds_initialisers {to = behind} (g.more_initialisers {from} {at} {to} {scope} {between} {after} {first} {rest = list} is comma rest) depth low closes (suc n) found room =
+    finds_initialisers {to = end} (g.more_initialisers {from} {at} {to} {scope} {between} {after} {first} {rest = list} is comma rest) depth low closes (suc n) found room =
         goes_on (step.initialiser ts phrases depth) n found first (state from scope) at between (finds_initialiser is depth low (rw comma refl)) comma (initialisers_open rest)
         ∙ finds_initialisers rest depth low closes n (found ++ first ∷ []) (omega arith)
-        ∙ ap (λ l. Some (l, state behind after)) (append_assoc found (first ∷ []) list)
+        ∙ ap (λ l. Some (l, state end after)) (append_assoc found (first ∷ []) list)
 
   -- ---- declarators with initialisers
 
-  given-nothing : (depth at : ℕ) (scope : Scope) → kind_at ts at ≢ Some (k.Mark mark.Equal) → step.given ts phrases depth (state at scope) ≡ Some (None, state at scope)
-  unfolding step.given
-  given-nothing depth at scope other = rw (not_here ts at _ other) refl
+  after_equal-nothing : (depth at : ℕ) (scope : Scope) → kind_at ts at ≢ Some (k.Mark mark.Equal) → step.initialiser_after ts phrases depth (state at scope) ≡ Some (None, state at scope)
+  unfolding step.initialiser_after
+  after_equal-nothing depth at scope other = rw (not_here ts at _ other) refl
 
-  given-value : (depth at to : ℕ) (scope after : Scope) (v : Initialiser) → IsMark ts at mark.Equal →
+  after_equal-value : (depth at to : ℕ) (scope after : Scope) (v : Initialiser) → IsMark ts at mark.Equal →
       step.initialiser ts phrases depth (state (at + 1) scope) ≡ Some (v, state to after) →
-      step.given ts phrases depth (state at scope) ≡ Some (Some v, state to after)
-  unfolding step.given
-  given-value depth at to scope after v equal found = rw (here ts at _ equal, found) refl
+      step.initialiser_after ts phrases depth (state at scope) ≡ Some (Some v, state to after)
+  unfolding step.initialiser_after
+  after_equal-value depth at to scope after v equal found = rw (here ts at _ equal, found) refl
 
-  initialised_is : (depth from : ℕ) (what : Use) (f : Declared × State) (v : Option Initialiser) (t : State) →
-      step.given ts phrases depth (declare f.1 f.0.1 what) ≡ Some (v, t) →
-      step.initialised ts phrases depth what from f ≡ Some (record { place = place_at ts from; declarator = f.0.0; value = v }, t)
-  unfolding step.initialised
-  initialised_is depth from what f v t found = rw found refl
+  with_initialiser_is : (depth from : ℕ) (what : NameKind) (f : NamedDeclarator × State) (v : Option Initialiser) (t : State) →
+      step.initialiser_after ts phrases depth (declare f.1 f.0.name what) ≡ Some (v, t) →
+      step.with_initialiser ts phrases depth what from f ≡ Some (record { place = place_at ts from; declarator = f.0.node; value = v }, t)
+  unfolding step.with_initialiser
+  with_initialiser_is depth from what f v t found = rw found refl
 
-  finds_init_declarator : {d from to : ℕ} {what : Use} {scope after : Scope} {found : InitDeclarator} →
+  finds_init_declarator : {d from to : ℕ} {what : NameKind} {scope after : Scope} {found : InitDeclarator} →
       IsInitDeclarator text ts d what scope after from to found → (depth : ℕ) → d ≤ depth → IsMark ts to mark.Comma ⊎ IsMark ts to mark.Semicolon →
       IsRead ts phrases depth what (state from scope) found (state to after)
-  finds_init_declarator (g.without_value {from} {to} {named = what} {scope} {after} {name} {own} {declarator} is) depth low closes =
+  finds_init_declarator (g.without_value {from} {to} {kind = what} {scope} {after} {name} {own} {declarator} is) depth low closes =
       let e = separated ts to closes in
-      let f : Declared × State = ((declarator, name, own), state to after) in
+      let f : NamedDeclarator × State = (with_name_found declarator name own, state to after) in
       record {
         first = f;
         is = finds_declarator is depth low e.1;
-        rest = initialised_is depth from what f None (state to ((name, what) ∷ after)) (given-nothing depth to ((name, what) ∷ after) e.2);
+        rest = with_initialiser_is depth from what f None (state to ((name, what) ∷ after)) (after_equal-nothing depth to ((name, what) ∷ after) e.2);
         no_body = e.3;
       }
-  finds_init_declarator (g.with_value {from} {at} {to} {named = what} {scope} {between} {after} {name} {own} {declarator} {value} is equal v) depth low closes =
+  finds_init_declarator (g.with_value {from} {at} {to} {kind = what} {scope} {between} {after} {name} {own} {declarator} {value} is equal v) depth low closes =
       let e = separated ts to closes in
-      let f : Declared × State = ((declarator, name, own), state at between) in
+      let f : NamedDeclarator × State = (with_name_found declarator name own, state at between) in
       record {
         first = f;
         is = finds_declarator is depth low (rw equal refl);
-        rest = initialised_is depth from what f (Some value) (state to after)
-            (given-value depth at to ((name, what) ∷ between) after value equal (finds_initialiser v depth low e.0));
+        rest = with_initialiser_is depth from what f (Some value) (state to after)
+            (after_equal-value depth at to ((name, what) ∷ between) after value equal (finds_initialiser v depth low e.0));
         no_body = λ h. cc;
       }
 
-  init_declarator_is : (depth : ℕ) (what : Use) (s t : State) (d : InitDeclarator) → IsRead ts phrases depth what s d t →
+  init_declarator_is : (depth : ℕ) (what : NameKind) (s t : State) (d : InitDeclarator) → IsRead ts phrases depth what s d t →
       step.init_declarator ts phrases depth what s ≡ Some (d, t)
   unfolding step.init_declarator
   init_declarator_is depth what s t d r = rw (r.is, r.rest) refl
 
-  -- one more, and the others behind it
-  abbrev one_more : ℕ → Use → ℕ → List InitDeclarator → Reading (List InitDeclarator)
+  -- one more, and the others after it
+  abbrev one_more : ℕ → NameKind → ℕ → List InitDeclarator → Reading (List InitDeclarator)
   one_more depth what n found s =
-      step.init_declarator ts phrases depth what s >>= λ next. step.others ts phrases depth what n (found ++ next.0 ∷ []) next.1
+      step.init_declarator ts phrases depth what s >>= λ next. step.more_declarators ts phrases depth what n (found ++ next.0 ∷ []) next.1
 
-  one_more_is : (depth : ℕ) (what : Use) (n : ℕ) (found : List InitDeclarator) (s t : State) (d : InitDeclarator) → IsRead ts phrases depth what s d t →
-      one_more depth what n found s ≡ step.others ts phrases depth what n (found ++ d ∷ []) t
+  one_more_is : (depth : ℕ) (what : NameKind) (n : ℕ) (found : List InitDeclarator) (s t : State) (d : InitDeclarator) → IsRead ts phrases depth what s d t →
+      one_more depth what n found s ≡ step.more_declarators ts phrases depth what n (found ++ d ∷ []) t
   one_more_is depth what n found s t d r = rw (init_declarator_is depth what s t d r) refl
 
-  others_end : (depth : ℕ) (what : Use) (n : ℕ) (found : List InitDeclarator) (at : ℕ) (scope : Scope) → 1 ≤ n → IsMark ts at mark.Semicolon →
-      step.others ts phrases depth what n found (state at scope) ≡ Some (found, state (at + 1) scope)
-  unfolding step.others
-  others_end depth what zero found at scope some ends = absurd (omega arith)
-  others_end depth what (suc n) found at scope some ends =
+  more_end : (depth : ℕ) (what : NameKind) (n : ℕ) (found : List InitDeclarator) (at : ℕ) (scope : Scope) → 1 ≤ n → IsMark ts at mark.Semicolon →
+      step.more_declarators ts phrases depth what n found (state at scope) ≡ Some (found, state (at + 1) scope)
+  unfolding step.more_declarators
+  more_end depth what zero found at scope some ends = absurd (omega arith)
+  more_end depth what (suc n) found at scope some ends =
       rw (instead ts at (k.Mark mark.Comma) (k.Mark mark.Semicolon) ends (λ h. cc), here ts at _ ends) refl
 
-  others_more : (depth : ℕ) (what : Use) (n : ℕ) (found : List InitDeclarator) (at : ℕ) (scope : Scope) → IsMark ts at mark.Comma →
-      step.others ts phrases depth what (suc n) found (state at scope) ≡ one_more depth what n found (state (at + 1) scope)
-  unfolding step.others
-  others_more depth what n found at scope comma = rw (here ts at _ comma) refl
+  more_more : (depth : ℕ) (what : NameKind) (n : ℕ) (found : List InitDeclarator) (at : ℕ) (scope : Scope) → IsMark ts at mark.Comma →
+      step.more_declarators ts phrases depth what (suc n) found (state at scope) ≡ one_more depth what n found (state (at + 1) scope)
+  unfolding step.more_declarators
+  more_more depth what n found at scope comma = rw (here ts at _ comma) refl
 
-  finds_more : {d from to : ℕ} {what : Use} {scope after : Scope} {all : List InitDeclarator} →
+  finds_more : {d from to : ℕ} {what : NameKind} {scope after : Scope} {all : List InitDeclarator} →
       AreInitDeclarators text ts d what scope after from to all → (depth : ℕ) → d ≤ depth → IsMark ts to mark.Semicolon → (n : ℕ) (found : List InitDeclarator) →
       length all ≤ n → one_more depth what n found (state from scope) ≡ Some (found ++ all, state (to + 1) after)
-  finds_more (g.last {from} {to} {named = what} {scope} {after} {only} is) depth low ends n found room =
+  finds_more (g.last {from} {to} {kind = what} {scope} {after} {only} is) depth low ends n found room =
       one_more_is depth what n found (state from scope) (state to after) only (finds_init_declarator is depth low (inr ends))
-      ∙ others_end depth what n (found ++ only ∷ []) to after room ends
+      ∙ more_end depth what n (found ++ only ∷ []) to after room ends
   finds_more (g.more is comma rest) depth low ends zero found room = absurd (omega arith)
-  finds_more (g.more {from} {at} {to} {named = what} {scope} {between} {after} {first} {rest = list} is comma rest) depth low ends (suc n) found room =
+  finds_more (g.more {from} {at} {to} {kind = what} {scope} {between} {after} {first} {rest = list} is comma rest) depth low ends (suc n) found room =
       one_more_is depth what (suc n) found (state from scope) (state at between) first (finds_init_declarator is depth low (inl comma))
-      ∙ others_more depth what n (found ++ first ∷ []) at between comma
+      ∙ more_more depth what n (found ++ first ∷ []) at between comma
       ∙ finds_more rest depth low ends n (found ++ first ∷ []) (omega arith)
       ∙ ap (λ l. Some (l, state (to + 1) after)) (append_assoc found (first ∷ []) list)
 
   -- ---- declarations
 
-  init_declarators_are : (depth : ℕ) (what : Use) (s between t : State) (d : InitDeclarator) (rest : List InitDeclarator) → IsRead ts phrases depth what s d between →
-      step.others ts phrases depth what (length ts) (d ∷ []) between ≡ Some (d ∷ rest, t) → AreRead ts phrases depth what s (d ∷ rest) t
+  init_declarators_are : (depth : ℕ) (what : NameKind) (s between t : State) (d : InitDeclarator) (rest : List InitDeclarator) → IsRead ts phrases depth what s d between →
+      step.more_declarators ts phrases depth what (length ts) (d ∷ []) between ≡ Some (d ∷ rest, t) → AreRead ts phrases depth what s (d ∷ rest) t
   unfolding step.init_declarators
   init_declarators_are depth what s between t d rest r found =
       record { first = r.first; is = r.is; rest = rw (r.rest, found) refl; no_body = r.no_body }
 
-  others_are : (depth : ℕ) (what : Use) (n : ℕ) (found : List InitDeclarator) (at : ℕ) (scope : Scope) (answer : Option (List InitDeclarator × State)) →
+  more_are : (depth : ℕ) (what : NameKind) (n : ℕ) (found : List InitDeclarator) (at : ℕ) (scope : Scope) (answer : Option (List InitDeclarator × State)) →
       IsMark ts at mark.Comma → 1 ≤ n → ((m : ℕ) → n ≡ m + 1 → one_more depth what m found (state (at + 1) scope) ≡ answer) →
-      step.others ts phrases depth what n found (state at scope) ≡ answer
-  others_are depth what zero found at scope answer comma some rest = absurd (omega arith)
-  others_are depth what (suc n) found at scope answer comma some rest = others_more depth what n found at scope comma ∙ rest n (omega arith)
+      step.more_declarators ts phrases depth what n found (state at scope) ≡ answer
+  more_are depth what zero found at scope answer comma some rest = absurd (omega arith)
+  more_are depth what (suc n) found at scope answer comma some rest = more_more depth what n found at scope comma ∙ rest n (omega arith)
 
-  pub finds_init_declarators : {d from to : ℕ} {what : Use} {scope after : Scope} {all : List InitDeclarator} →
+  pub finds_init_declarators : {d from to : ℕ} {what : NameKind} {scope after : Scope} {all : List InitDeclarator} →
       AreInitDeclarators text ts d what scope after from to all → (depth : ℕ) → d ≤ depth → IsMark ts to mark.Semicolon →
       AreRead ts phrases depth what (state from scope) all (state (to + 1) after)
-  finds_init_declarators (g.last {from} {to} {named = what} {scope} {after} {only} is) depth low ends =
+  finds_init_declarators (g.last {from} {to} {kind = what} {scope} {after} {only} is) depth low ends =
       let within = stands_within ts to _ ends in
       init_declarators_are depth what (state from scope) (state to after) (state (to + 1) after) only [] (finds_init_declarator is depth low (inr ends))
-      (others_end depth what (length ts) (only ∷ []) to after (omega arith) ends)
-  finds_init_declarators (g.more {from} {at} {to} {named = what} {scope} {between} {after} {first} {rest = list} is comma rest) depth low ends =
+      (more_end depth what (length ts) (only ∷ []) to after (omega arith) ends)
+  finds_init_declarators (g.more {from} {at} {to} {kind = what} {scope} {between} {after} {first} {rest = list} is comma rest) depth low ends =
       let within = stands_within ts to _ ends in
       let j = init_declarators_move rest in
       init_declarators_are depth what (state from scope) (state at between) (state (to + 1) after) first list (finds_init_declarator is depth low (inl comma))
-      (others_are depth what (length ts) (first ∷ []) at between (Some (first ∷ list, state (to + 1) after)) comma (omega arith)
+      (more_are depth what (length ts) (first ∷ []) at between (Some (first ∷ list, state (to + 1) after)) comma (omega arith)
       (λ m same. finds_more rest depth low ends m (first ∷ []) (omega arith)))
 
   pub finds_specs : {d from to : ℕ} {scope after : Scope} {roles : List Role} {found : Specs} → IsSpecs text ts d scope after roles from to found →
@@ -300,9 +307,9 @@ module _ (text : List ℕ) (ts : List Token) (phrases : ℕ → Readers) (exact 
 
   declaration-names : (depth height from at : ℕ) (scope between : Scope) (specs : Specs) (roles : List Role) (all : List InitDeclarator) (t : State) →
       (phrases depth).specs (state from scope) ≡ Some ((specs, roles, height), state at between) → kind_at ts at ≢ Some (k.Mark mark.Semicolon) →
-      AreRead ts phrases depth (use_of roles) (state at between) all t →
+      AreRead ts phrases depth (declared_kind roles) (state at between) all t →
       step.declaration ts phrases depth (state from scope) ≡ Some (record { place = place_at ts from; specs = specs; declarators = all }, t)
-  unfolding step.declaration step.with_names
+  unfolding step.declaration step.declaration_of_names
   declaration-names depth height from at scope between specs roles all t found other r = rw (found, not_here ts at _ other, r.is, r.rest) refl
 
   pub finds_declaration : {d from to : ℕ} {scope after : Scope} {found : Declaration} → IsDeclaration text ts d scope after from to found →

@@ -10,17 +10,17 @@ use Rattle.c_grammar.specs.declared.words.Binary.TheVariants as binary
 use Rattle.c_grammar.specs.Operators.{rank}
 use Rattle.grammar_descent.specs.declared.growing.Growth.{Growth}
 use Rattle.grammar_descent.specs.declared.growing.Growth.TheVariants as growth
-use Rattle.grammar_descent.specs.Follow.{mark_tie, tie, is_string, is_below, ends}
-use Rattle.grammar_descent.specs.ExpressionSteps.{growth_by_mark, growth_by, gives}
+use Rattle.grammar_descent.specs.Follow.{mark_level, kind_level, is_string, is_below, ends}
+use Rattle.grammar_descent.specs.ExpressionSteps.{growth_by_mark, growth_by, growth_level}
 
 -- one more than the level of what it makes, and 0 where nothing is made
 abbrev pub binds_by : Option Growth → ℕ
-binds_by (Some by) = gives by + 1
+binds_by (Some by) = growth_level by + 1
 binds_by None = 0
 
 -- one more than that where it groups to the right, so that an operand at its own level may stand before it
 abbrev pub ties_by : Option Growth → ℕ
-ties_by (Some growth.Choice) = 4
+ties_by (Some growth.Conditional) = 4
 ties_by (Some (growth.Assign op)) = 3
 ties_by (Some growth.Comma) = 2
 ties_by (Some growth.Index) = 16
@@ -64,20 +64,20 @@ levels kind = levels_by (growth_by kind)
 -- ---- where a phrase ends
 
 gives_by : Option Growth → Option ℕ
-gives_by (Some by) = Some (gives by)
+gives_by (Some by) = Some (growth_level by)
 gives_by None = None
 
-mark_tie-growth : (m : Mark) → mark_tie m ≡ gives_by (growth_by_mark m)
+mark_level-growth : (m : Mark) → mark_level m ≡ gives_by (growth_by_mark m)
 unfolding gives_by
-mark_tie-growth mark.Comma = refl
-mark_tie-growth _ = refl
+mark_level-growth mark.Comma = refl
+mark_level-growth _ = refl
 
-tie-growth : (kind : Option Kind) → tie kind ≡ gives_by (growth_by kind)
+kind_level-growth : (kind : Option Kind) → kind_level kind ≡ gives_by (growth_by kind)
 unfolding gives_by
-tie-growth (Some (k.Mark m)) = mark_tie-growth m
-tie-growth (Some k.Name) = refl
-tie-growth (Some _) = refl
-tie-growth None = refl
+kind_level-growth (Some (k.Mark m)) = mark_level-growth m
+kind_level-growth (Some k.Name) = refl
+kind_level-growth (Some _) = refl
+kind_level-growth None = refl
 
 below_from : (by : Option Growth) (level : ℕ) → binds_by by ≤ level → is_below (gives_by by) level ≡ true
 unfolding gives_by
@@ -91,7 +91,7 @@ from_below None level h = omega arith
 
 pub ends_from : (level : ℕ) (kind : Option Kind) → is_string kind ≡ false → binds kind ≤ level → ends level kind ≡ true
 unfolding binds
-ends_from level kind other h = rw (other, tie-growth kind) (below_from (growth_by kind) level h)
+ends_from level kind other h = rw (other, kind_level-growth kind) (below_from (growth_by kind) level h)
 
 pub no_string_from : (level : ℕ) (kind : Option Kind) → ends level kind ≡ true → is_string kind ≡ false
 no_string_from level (Some k.Str) h = absurd cc
@@ -100,7 +100,7 @@ no_string_from level None h = refl
 
 pub binds_from : (level : ℕ) (kind : Option Kind) → ends level kind ≡ true → binds kind ≤ level
 unfolding binds
-binds_from level kind h = from_below (growth_by kind) level (by_test (is_string kind) (tie kind) (tie-growth kind) h)
+binds_from level kind h = from_below (growth_by kind) level (by_test (is_string kind) (kind_level kind) (kind_level-growth kind) h)
   where
     by_test : (b : Bool) (t : Option ℕ) → t ≡ gives_by (growth_by kind) → cond b false (is_below t level) ≡ true → is_below (gives_by (growth_by kind)) level ≡ true
     by_test true t is h = absurd cc
@@ -113,7 +113,7 @@ no_comma kind h is = by_kind kind is h
     by_kind : (kind : Option Kind) → kind ≡ Some (k.Mark mark.Comma) → binds_by (growth_by kind) ≤ 0 → ⊥
     by_kind kind is h = let low : 1 ≤ 0 = subst (λ (kind : Option Kind). binds_by (growth_by kind) ≤ 0) is h in omega arith
 
--- what may stand behind an expression of this level that was reached, though it may go on with it
+-- what may stand after an expression of this level that was reached, though it may go on with it
 pub record Allows (level : ℕ) (kind : Option Kind) : Type 0 where
   pub no_string : is_string kind ≡ false
   pub tied : ties kind ≤ level + 1

@@ -1,19 +1,24 @@
 -- What is read as members or as enumeration constants is derived.
-use Rattle.std.proofs.Common.{◌≡◌, ℕ, zero, suc, ◌+◌, ◌<◌, ◌≤◌, max, ◌&&◌, List, [], ◌∷◌, ◌++◌, length, Option, Some, None, refl, sym, subst, ◌∙◌, arith, inl, inr}
+use Rattle.std.proofs.Common.{◌≡◌, ℕ, zero, suc, ◌+◌, ◌<◌, ◌≤◌, max, ◌&&◌, List, [], ◌∷◌, ◌++◌, length, Option, Some, None, refl, sym, ap, subst, ◌∙◌, arith, inl, inr}
 use Rattle.std.proofs.lemmas.Bool.{cases_Bool}
 use Rattle.c_tokens.specs.declared.kind.Mark.TheVariants as mark
 use Rattle.c_tokens.specs.declared.kind.Kind.TheVariants as k
 use Rattle.c_tokens.specs.declared.token.Token.{Token}
+use Rattle.c_grammar.specs.declared.words.NameKind.TheVariants as declares
+use Rattle.c_grammar.specs.declared.words.Naming.TheVariants as naming
+use Rattle.c_grammar.specs.declared.words.Level.TheVariants as of
 use Rattle.c_grammar.specs.declared.phrases.Expression.{Expression}
 use Rattle.c_grammar.specs.declared.phrases.Member.{Member}
 use Rattle.c_grammar.specs.declared.phrases.Enumerator.{Enumerator}
 use Rattle.c_grammar.specs.declared.phrases.Declarator.{Declarator}
-use Rattle.c_grammar.specs.Tokens.{Name, place_at, name_at, IsMark, IsOptionalName, absent, present, ClosesList, brace, comma_and_brace}
-use Rattle.c_grammar.specs.Scope.{Scope, no_type}
-use Rattle.c_grammar.specs.Operators.{conditional}
-use Rattle.c_grammar.specs.Phrases.{declares, Grip, loose, IsDeclarator, AreMembers, IsMember, AreDeclarators, AreEnumerators, IsEnumerator}
+use Rattle.c_tokens.specs.Names.{Name}
+use Rattle.token_texts.specs.Names.{name_at}
+use Rattle.c_grammar.specs.Tokens.{place_at, IsMark, IsOptionalName, absent, present, ClosesList, brace, comma_and_brace}
+use Rattle.c_grammar.specs.Scope.{Scope}
+use Rattle.c_grammar.specs.Operators.{tightness}
+use Rattle.c_grammar.specs.Phrases.{DeclaratorKind, whole, IsDeclarator, AreMembers, IsMember, AreDeclarators, AreEnumerators, IsEnumerator}
 use Rattle.c_grammar.specs.Phrases as p
-use Rattle.grammar_descent.specs.Reading.{State, Reading, sees, mark_at, past, named, Readers}
+use Rattle.grammar_descent.specs.Reading.{State, Reading, FoundDeclarator, sees, mark_at, past, Readers}
 use Rattle.grammar_descent.specs.Exact.{Grows, SoundExpression}
 use Rattle.grammar_descent.specs.SpecifierSteps as step
 use Rattle.grammar_descent.proofs.Seen.{stands, bind_some, chosen, seen, both}
@@ -22,7 +27,7 @@ use Rattle.grammar_descent.proofs.Nested.{Sound}
 use Rattle.grammar_descent.proofs.DeclaratorSound.{grows_on}
 
 module _ (text : List ℕ) (ts : List Token) where
-  pub optional_name_sound : (at : ℕ) → IsOptionalName text ts at (step.optional_name text ts at).1 (step.optional_name text ts at).0
+  pub optional_name_sound : (at : ℕ) → IsOptionalName ts at (step.optional_name text ts at).1 (step.optional_name text ts at).0
   unfolding step.optional_name
   optional_name_sound at = elim (cases_Bool (sees ts at k.Name)) [
     | inl c ↦ rw c (present (stands ts at k.Name c))
@@ -41,11 +46,11 @@ module _ (text : List ℕ) (ts : List Token) where
   ]
 
   -- a declarator that has to have a name has one
-  declared_name : {grip : Grip} {d from to : ℕ} {scope after : Scope} {name : Option Name} {own : Option Scope} {node : Declarator} →
-      IsDeclarator text ts declares grip d scope after from to name own node → (n : Name) × (name ≡ Some n)
+  declared_name : {kind : DeclaratorKind} {d from to : ℕ} {scope after : Scope} {name : Option Name} {own : Option Scope} {node : Declarator} →
+      IsDeclarator text ts naming.Named kind d scope after from to name own node → (n : Name) × (name ≡ Some n)
   declared_name (p.declared_name {from} is) = (name_at text ts from, refl)
   declared_name (p.pointer is all a) = declared_name a
-  declared_name (p.enclosed opens may a some closes) = declared_name a
+  declared_name (p.in_parentheses opens may a some closes) = declared_name a
   declared_name (p.open_array a opens closes) = declared_name a
   declared_name (p.array a opens b closes) = declared_name a
   declared_name (p.function a opens all closes) = declared_name a
@@ -64,19 +69,18 @@ module _ (text : List ℕ) (ts : List Token) (depth : ℕ) (inner : Readers) (so
     name : Name
     own : Option Scope
     low : height < depth
-    derived : (d : ℕ) → height ≤ d → IsDeclarator text ts declares loose d s.scope t.scope s.at t.at (Some name) own node
+    derived : (d : ℕ) → height ≤ d → IsDeclarator text ts naming.Named whole d s.scope t.scope s.at t.at (Some name) own node
     grows : Grows s.scope t.scope
 
-  one_declarator : (s t : State) (node : Declarator) (name : Option Name) (own : Option Scope) (height : ℕ) →
-      inner.declarator named s ≡ Some ((node, name, own, height), t) → OneDeclarator s t node height
-  one_declarator s t node name own height h =
-      let f = sound.declarator named s t node name own height h in
-      let (n, is) = declared_name text ts (f.derived height (omega arith)) in
+  one_declarator : (s t : State) (found : FoundDeclarator) → inner.declarator naming.Named s ≡ Some (found, t) → OneDeclarator s t found.node found.height
+  one_declarator s t found h =
+      let f = sound.declarator naming.Named s t found h in
+      let (n, is) = declared_name text ts (f.derived found.height (omega arith)) in
       record {
         name = n;
-        own = own;
+        own = found.own;
         low = f.low;
-        derived = λ d deep. subst (λ l. IsDeclarator text ts declares loose d s.scope t.scope s.at t.at l own node) is (f.derived d deep);
+        derived = λ d deep. subst (λ l. IsDeclarator text ts naming.Named whole d s.scope t.scope s.at t.at l found.own found.node) is (f.derived d deep);
         grows = f.grows;
       }
 
@@ -100,17 +104,17 @@ module _ (text : List ℕ) (ts : List Token) (depth : ℕ) (inner : Readers) (so
   unfolding step.declarators
   declarators_sound zero found high s r h = absurd cc
   declarators_sound (suc n) found high s r h =
-      let (a, is, h1) = bind_some (inner.declarator named s) _ r h in
-      let one = one_declarator s a.1 a.0.0 a.0.1 a.0.2 a.0.3 is in
+      let (a, is, h1) = bind_some (inner.declarator naming.Named s) _ r h in
+      let one = one_declarator s a.1 a.0 is in
       elim (chosen (mark_at ts a.1.at mark.Comma) _ _ (Some r) h1) [
-        | inl c ↦ declarator_before found high s a.1 a.0.0 a.0.3 r one (stands ts a.1.at _ c.0)
-            (declarators_sound n (found ++ a.0.0 ∷ []) (max high a.0.3) (past a.1 1) r c.1)
+        | inl c ↦ declarator_before found high s a.1 a.0.node a.0.height r one (stands ts a.1.at _ c.0)
+            (declarators_sound n (found ++ a.0.node ∷ []) (max high a.0.height) (past a.1 1) r c.1)
         | inr c ↦ (
-            let e : ((found ++ a.0.0 ∷ [], max high a.0.3), a.1) ≡ r = (let i = c.1 in cc) in
+            let e : ((found ++ a.0.node ∷ [], max high a.0.height), a.1) ≡ r = (let i = c.1 in cc) in
             let low = one.low in
             subst (DeclaratorsRead found high s) e
             (record {
-              rest = a.0.0 ∷ [];
+              rest = a.0.node ∷ [];
               all = refl;
               tall = omega arith;
               low = λ small. omega arith;
@@ -203,22 +207,29 @@ module _ (text : List ℕ) (ts : List Token) (depth : ℕ) (expression : ℕ →
   unfolding step.enumerator_at
   enumerator_sound s r h =
       let (is, h1) = seen ts s.at k.Name _ r h in
-      let scope : Scope = (name_at text ts s.at, no_type) ∷ s.scope in
-      let one : Grows s.scope scope = record { new = (name_at text ts s.at, no_type) ∷ []; is = refl } in
+      let name = name_at text ts s.at in
       elim (chosen (mark_at ts (s.at + 1) mark.Equal) _ _ (Some r) h1) [
         | inl c ↦ (
-            let t : State = record { at = s.at + 2; scope = scope } in
-            let (v, found, h2) = bind_some (expression conditional t) _ r c.1 in
-            let e : ((record { place = place_at ts s.at; name = name_at text ts s.at; value = Some v.0.0 }, v.0.1), v.1) ≡ r = cc in
+            let (v, found, h2) = bind_some (expression (tightness of.Conditional) (past s 2)) _ r c.1 in
+            let next : State = record { at = v.1.at; scope = (name, declares.Ordinary) ∷ v.1.scope } in
+            let e : ((record { place = place_at ts s.at; value = Some v.0.0 }, v.0.1), next) ≡ r = cc in
+            let grew = sound.grows (tightness of.Conditional) (past s 2) v.1 v.0.0 v.0.1 found in
             subst (EnumeratorRead s) e
             (record {
-              low = sound.low conditional t v.1 v.0.0 v.0.1 found;
-              derived = λ d deep. p.given is (stands ts (s.at + 1) _ c.0) (sound.derived conditional d t v.1 v.0.0 v.0.1 found deep);
-              grows = grows_on one (sound.grows conditional t v.1 v.0.0 v.0.1 found);
+              low = sound.low (tightness of.Conditional) (past s 2) v.1 v.0.0 v.0.1 found;
+              derived =
+                  λ d deep. p.with_value is (stands ts (s.at + 1) _ c.0) (sound.derived (tightness of.Conditional) d (past s 2) v.1 v.0.0 v.0.1 found deep);
+              grows = record { new = (name, declares.Ordinary) ∷ grew.new; is = ap (λ l. (name, declares.Ordinary) ∷ l) grew.is };
             }))
         | inr c ↦ (
-            let e : ((record { place = place_at ts s.at; name = name_at text ts s.at; value = None }, 0), record { at = s.at + 1; scope = scope }) ≡ r = (let i = c.1 in cc) in
-            subst (EnumeratorRead s) e (record { low = omega arith; derived = λ d deep. p.counted is; grows = one }))
+            let next : State = record { at = s.at + 1; scope = (name, declares.Ordinary) ∷ s.scope } in
+            let e : ((record { place = place_at ts s.at; value = None }, 0), next) ≡ r = (let i = c.1 in cc) in
+            subst (EnumeratorRead s) e
+            (record {
+              low = omega arith;
+              derived = λ d deep. p.without_value is;
+              grows = record { new = (name, declares.Ordinary) ∷ []; is = refl };
+            }))
       ]
 
   -- What a loop reads is what it was given, and then enumeration constants.

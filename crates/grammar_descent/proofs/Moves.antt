@@ -2,9 +2,10 @@
 use Rattle.std.proofs.Common.{ℕ, ◌+◌, ◌<◌, ◌≤◌, List, length, Option, arith}
 use Rattle.c_tokens.specs.declared.token.Token.{Token}
 use Rattle.c_tokens.specs.declared.kind.Kind.TheVariants as k
+use Rattle.c_grammar.specs.declared.words.Naming.{Naming}
 use Rattle.c_grammar.specs.declared.words.Qualifier.{Qualifier}
 use Rattle.c_grammar.specs.declared.phrases.Expression.{Expression}
-use Rattle.c_grammar.specs.declared.phrases.TypeName.{TypeName}
+use Rattle.c_grammar.specs.declared.phrases.TypePhrase.{TypePhrase}
 use Rattle.c_grammar.specs.declared.phrases.Specs.{Specs}
 use Rattle.c_grammar.specs.declared.phrases.Specifier.{Specifier}
 use Rattle.c_grammar.specs.declared.phrases.Member.{Member}
@@ -12,11 +13,12 @@ use Rattle.c_grammar.specs.declared.phrases.Enumerator.{Enumerator}
 use Rattle.c_grammar.specs.declared.phrases.Declarator.{Declarator}
 use Rattle.c_grammar.specs.declared.phrases.Parameter.{Parameter}
 use Rattle.c_grammar.specs.Tokens as t
-use Rattle.c_grammar.specs.Tokens.{Name, AreStrings, IsOptionalName, ClosesList}
+use Rattle.c_tokens.specs.Names.{Name}
+use Rattle.c_grammar.specs.Tokens.{AreStrings, IsOptionalName, ClosesList}
 use Rattle.c_grammar.specs.Words.{Role}
 use Rattle.c_grammar.specs.Scope.{Scope}
 use Rattle.c_grammar.specs.Phrases as p
-use Rattle.c_grammar.specs.Phrases.{IsExpression, AreExpressions, IsTypeName, IsSpecs, AreSpecifiers, IsSpecifier, AreMembers, IsMember, AreDeclarators, AreEnumerators, IsEnumerator, IsDeclarator, AreParameters, AreSomeParameters, IsParameter, AreQualifiers, Form, Grip}
+use Rattle.c_grammar.specs.Phrases.{IsExpression, AreExpressions, IsTypeName, IsSpecs, AreSpecifiers, IsSpecifier, AreMembers, IsMember, AreDeclarators, AreEnumerators, IsEnumerator, IsDeclarator, AreParameters, AreSomeParameters, IsParameter, AreQualifiers, DeclaratorKind}
 use Rattle.grammar_descent.proofs.Seen.{stands_within}
 
 module _ (ts : List Token) where
@@ -38,7 +40,7 @@ module _ (ts : List Token) where
   closing_moves (t.comma_and_brace is closes) = omega arith
 
 module _ (text : List ℕ) (ts : List Token) where
-  pub optional_name_moves : {from to : ℕ} {tag : Option Name} → IsOptionalName text ts from to tag → from ≤ to
+  pub optional_name_moves : {from to : ℕ} {tag : Option ℕ} → IsOptionalName ts from to tag → from ≤ to
   optional_name_moves t.absent = omega arith
   optional_name_moves (t.present is) = omega arith
 
@@ -59,8 +61,8 @@ module _ (text : List ℕ) (ts : List Token) where
     expression_moves (p.size_of_type low is opens type closes) = let i = type_name_moves type in omega arith
     expression_moves (p.cast_to low is type closes a) = let i = type_name_moves type in let j = expression_moves a in omega arith
     expression_moves (p.binary op low a is b) = let i = expression_moves a in let j = expression_moves b in omega arith
-    expression_moves (p.choice low a is b also c) = let i = expression_moves a in let j = expression_moves b in let l = expression_moves c in omega arith
-    expression_moves (p.assign op low a is b) = let i = expression_moves a in let j = expression_moves b in omega arith
+    expression_moves (p.conditional low a is b also c) = let i = expression_moves a in let j = expression_moves b in let l = expression_moves c in omega arith
+    expression_moves (p.assignment op low a is b) = let i = expression_moves a in let j = expression_moves b in omega arith
     expression_moves (p.comma low a is all) = let i = expression_moves a in let j = expressions_move all in omega arith
 
     pub expressions_move : {depth from to : ℕ} {scope after : Scope} {all : List Expression} → AreExpressions text ts depth scope after from to all →
@@ -68,7 +70,7 @@ module _ (text : List ℕ) (ts : List Token) where
     expressions_move (p.last_expression a) = let i = expression_moves a in omega arith
     expressions_move (p.more_expressions a is rest) = let i = expression_moves a in let j = expressions_move rest in omega arith
 
-    pub type_name_moves : {depth from to : ℕ} {scope after : Scope} {type : TypeName} → IsTypeName text ts depth scope after from to type → from ≤ to
+    pub type_name_moves : {depth from to : ℕ} {scope after : Scope} {type : TypePhrase} → IsTypeName text ts depth scope after from to type → from ≤ to
     type_name_moves (p.type_name held declarator) = let i = specs_move held in let j = declarator_moves declarator in omega arith
 
     pub specs_move : {depth from to : ℕ} {scope after : Scope} {roles : List Role} {specs : Specs} → IsSpecs text ts depth scope after roles from to specs →
@@ -109,16 +111,17 @@ module _ (text : List ℕ) (ts : List Token) where
     enumerators_move (p.more_enumerators a is rest) = let i = enumerator_moves a in let j = enumerators_move rest in omega arith
 
     pub enumerator_moves : {depth from to : ℕ} {scope after : Scope} {found : Enumerator} → IsEnumerator text ts depth scope after from to found → from < to
-    enumerator_moves (p.counted is) = omega arith
-    enumerator_moves (p.given is equal a) = let i = expression_moves a in omega arith
+    enumerator_moves (p.without_value is) = omega arith
+    enumerator_moves (p.with_value is equal a) = let i = expression_moves a in omega arith
 
-    pub declarator_moves : {form : Form} {grip : Grip} {depth from to : ℕ} {scope after : Scope} {name : Option Name} {own : Option Scope} {found : Declarator} →
-        IsDeclarator text ts form grip depth scope after from to name own found → from ≤ to
+    pub declarator_moves : {how : Naming} {kind : DeclaratorKind} {depth from to : ℕ} {scope after : Scope} {name : Option Name} {own : Option Scope} {found : Declarator} →
+        IsDeclarator text ts how kind depth scope after from to name own found → from ≤ to
     declarator_moves (p.declared_name is) = omega arith
     declarator_moves (p.parameter_name is) = omega arith
     declarator_moves p.no_name = omega arith
+    declarator_moves p.no_parameter_name = omega arith
     declarator_moves (p.pointer is all a) = let i = qualifiers_move ts all in let j = declarator_moves a in omega arith
-    declarator_moves (p.enclosed is may a some closes) = let i = declarator_moves a in omega arith
+    declarator_moves (p.in_parentheses is may a some closes) = let i = declarator_moves a in omega arith
     declarator_moves (p.open_array a is closes) = let i = declarator_moves a in omega arith
     declarator_moves (p.array a is size closes) = let i = declarator_moves a in let j = expression_moves size in omega arith
     declarator_moves (p.function a is all closes) = let i = declarator_moves a in let j = parameters_move all in omega arith
@@ -155,8 +158,8 @@ module _ (text : List ℕ) (ts : List Token) where
     expression_fits (p.size_of_type {to} low is opens type closes) = let h = stands_within ts to _ closes in omega arith
     expression_fits (p.cast_to low is type closes a) = expression_fits a
     expression_fits (p.binary op low a is b) = expression_fits b
-    expression_fits (p.choice low a is b also c) = expression_fits c
-    expression_fits (p.assign op low a is b) = expression_fits b
+    expression_fits (p.conditional low a is b also c) = expression_fits c
+    expression_fits (p.assignment op low a is b) = expression_fits b
     expression_fits (p.comma low a is all) = expressions_fit all
 
     pub expressions_fit : {depth from to : ℕ} {scope after : Scope} {all : List Expression} → AreExpressions text ts depth scope after from to all → to ≤ length ts

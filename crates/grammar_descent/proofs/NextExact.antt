@@ -43,12 +43,12 @@ module _ (text : List ℕ) (ts : List Token) where
           derived = λ d deep. exact.specs_sound.derived d s t found roles height h deep;
           grows = exact.specs_sound.grows s t found roles height h;
         });
-    declarator = λ how s t found name own height h.
-        (let low = exact.declarator_sound.low how s t found name own height h in
+    declarator = λ how s t found h.
+        (let low = exact.declarator_sound.low how s t found h in
         record {
           low = omega arith;
-          derived = λ d deep. exact.declarator_sound.derived how d s t found name own height h deep;
-          grows = exact.declarator_sound.grows how s t found name own height h;
+          derived = λ d deep. exact.declarator_sound.derived how d s t found h deep;
+          grows = exact.declarator_sound.grows how s t found h;
         });
   }
 
@@ -56,8 +56,7 @@ module _ (text : List ℕ) (ts : List Token) where
   complete_below depth inner exact = record {
     expression = λ level d s t e low is ends. exact.expression_complete level d s t e (omega arith) is ends;
     specs = λ d s t found roles low is ends. exact.specs_complete d s t found roles (omega arith) is ends;
-    declarator = λ how form d s t found name own looks low is ends.
-        exact.declarator_complete how form d s t found name own looks (omega arith) is ends;
+    declarator = λ how d s t found name own low is ends. exact.declarator_complete how d s t found name own (omega arith) is ends;
   }
 
   -- from readers for a depth, and a reader of the expressions of the next one
@@ -87,10 +86,10 @@ module _ (text : List ℕ) (ts : List Token) where
       (record {
         expression = λ level s t e height h. absurd cc;
         specs = λ s t found roles height h. absurd cc;
-        declarator = λ how s t found name own height h. absurd cc;
+        declarator = λ how s t found h. absurd cc;
       })
       (record {
         expression = λ level d s t e low is ends. absurd (omega arith);
         specs = λ d s t found roles low is ends. absurd (omega arith);
-        declarator = λ how form d s t found name own looks low is ends. absurd (omega arith);
+        declarator = λ how d s t found name own low is ends. absurd (omega arith);
       })

@@ -1,10 +1,12 @@
 -- What lists of roles come to is known from their parts, so that a reader may keep counts in place of the list.
 use Rattle.std.proofs.Common.{◌≡◌, ℕ, suc, ◌+◌, Bool, true, false, ◌==◌, cond, List, [], ◌∷◌, ◌++◌, length, refl, ap, arith}
 use Rattle.std.proofs.lemmas.Bool.Decides.{nat_tests}
+use Rattle.c_grammar.specs.declared.words.NameKind.TheVariants as declares
+use Rattle.c_grammar.specs.declared.words.NameKind.{NameKind}
 use Rattle.c_grammar.specs.declared.words.BasicWord.{BasicWord}
 use Rattle.c_grammar.specs.contracts.words.BasicWord.{the_type}
 use Rattle.c_grammar.specs.Words.{Role, names_types, modifies, spells, is_type, basic_words, whole_types}
-use Rattle.c_grammar.specs.Scope.{Use, a_type, no_type, use_of}
+use Rattle.c_grammar.specs.Scope.{declared_kind}
 use denote.Enum.Bare.{sameb}
 use Rattle.grammar_descent.specs.TypeWords.{times, are_none}
 
@@ -23,16 +25,16 @@ whole_types-append (spells w ∷ one) two = whole_types-append one two
 whole_types-append (is_type ∷ one) two = let e = whole_types-append one two in omega arith
 
 -- a type where one of the two is
-abbrev pub either : Use → Use → Use
-either a_type other = a_type
-either no_type other = other
+abbrev pub either : NameKind → NameKind → NameKind
+either declares.Type other = declares.Type
+either declares.Ordinary other = other
 
-pub use_of-append : (one two : List Role) → use_of (one ++ two) ≡ either (use_of one) (use_of two)
-use_of-append [] two = refl
-use_of-append (names_types ∷ one) two = refl
-use_of-append (modifies ∷ one) two = use_of-append one two
-use_of-append (spells w ∷ one) two = use_of-append one two
-use_of-append (is_type ∷ one) two = use_of-append one two
+pub declared_kind-append : (one two : List Role) → declared_kind (one ++ two) ≡ either (declared_kind one) (declared_kind two)
+declared_kind-append [] two = refl
+declared_kind-append (names_types ∷ one) two = refl
+declared_kind-append (modifies ∷ one) two = declared_kind-append one two
+declared_kind-append (spells w ∷ one) two = declared_kind-append one two
+declared_kind-append (is_type ∷ one) two = declared_kind-append one two
 
 pub times-append : (w : BasicWord) (one two : List BasicWord) → times w (one ++ two) ≡ times w one + times w two
 unfolding times

@@ -20,7 +20,8 @@ use Rattle.c_grammar.specs.declared.phrases.Member.{Member}
 use Rattle.c_grammar.specs.declared.phrases.Enumerator.{Enumerator}
 use Rattle.c_grammar.specs.declared.phrases.Specifier.{Specifier}
 use Rattle.c_grammar.specs.declared.phrases.Specifier.TheVariants as made
-use Rattle.c_grammar.specs.Tokens.{Name, kind_at, place_at, name_at, IsMark, IsWord, IsName, IsOptionalName, ClosesList, brace, comma_and_brace}
+use Rattle.token_texts.specs.Names.{name_at}
+use Rattle.c_grammar.specs.Tokens.{kind_at, place_at, IsMark, IsWord, IsName, IsOptionalName, ClosesList, brace, comma_and_brace}
 use Rattle.c_grammar.specs.Words.{storage_word, qualifier_word, basic_word, aggregate_word, Role, is_type, HoldsNoType, HoldsOneType}
 use Rattle.c_grammar.specs.Scope.{Scope, IsType}
 use Rattle.c_grammar.specs.Phrases.{IsSpecs, AreSpecifiers, IsSpecifier, AreMembers, AreEnumerators}
@@ -29,7 +30,7 @@ use Rattle.grammar_descent.specs.Reading.{State, Reading, mark_at, Readers}
 use Rattle.grammar_descent.specs.Follow.{ends_specs, is_specifier_word}
 use Rattle.grammar_descent.specs.Exact.{IsFound, CompleteExpression, CompleteSpecs}
 use Rattle.grammar_descent.specs.SpecifierSteps as step
-use Rattle.grammar_descent.specs.SpecifierSteps.{Lead, word_lead, lead_by, led, FoundSpecifier}
+use Rattle.grammar_descent.specs.SpecifierSteps.{Lead, word_lead, lead_by, lead_or, FoundSpecifier}
 use Rattle.grammar_descent.proofs.Types.{specifier_begins, type_found}
 use Rattle.grammar_descent.proofs.Seen.{here, stands_within}
 use Rattle.grammar_descent.proofs.States.{state, added, apart_by}
@@ -37,7 +38,7 @@ use Rattle.grammar_descent.proofs.Moves.{specifier_moves}
 use Rattle.grammar_descent.proofs.FirstTokens.{begins_no_mark}
 use Rattle.grammar_descent.proofs.Nested.{Complete}
 use Rattle.grammar_descent.proofs.WordCounts.{one_type_found, no_type_found, not_none}
-use Rattle.grammar_descent.proofs.MembersComplete.{optional_name_found, members_behind_found, enumerators_behind_found}
+use Rattle.grammar_descent.proofs.MembersComplete.{optional_name_found, members_after_found, enumerators_after_found}
 
 -- ---- what begins a specifier
 
@@ -107,7 +108,7 @@ module _ (text : List ℕ) (ts : List Token) where
   word_leads earlier at scope w lead is leads = rw (is, leads) refl
 
   type_leads : (earlier : List Role) (at : ℕ) (scope : Scope) → IsName ts at → IsType scope (name_at text ts at) → HoldsNoType earlier →
-      step.lead_at text ts earlier (state at scope) ≡ Some step.type_name
+      step.lead_at text ts earlier (state at scope) ≡ Some step.typedef_name
   unfolding step.lead_at
   type_leads earlier at scope is known none = rw (is, type_found known, no_type_found none) refl
 
@@ -149,13 +150,13 @@ module _ (text : List ℕ) (ts : List Token) where
       let j = counted_from rest (specifier_fits a) in
       omega arith
 
-  -- no list begins behind a tag
+  -- no list begins after a tag
   no_brace : {d from to : ℕ} {scope after : Scope} {earlier roles : List Role} {all : List Specifier} →
       AreSpecifiers text ts d scope after earlier roles from to all → ends_specs (kind_at ts to) ≡ true → mark_at ts from mark.LeftBrace ≡ false
   no_brace (p.no_specifiers {at}) ends = apart_by ts at (k.Mark mark.LeftBrace) ends_specs ends refl
   no_brace (p.more_specifiers {from} {scope} a rest) ends = begins_no_mark text ts scope from mark.LeftBrace (specifier_begins text ts a)
 
-  tag_found : (from : ℕ) → IsName ts (from + 1) → step.optional_name text ts (from + 1) ≡ (Some (name_at text ts (from + 1)), from + 2)
+  tag_found : (from : ℕ) → IsName ts (from + 1) → step.optional_name text ts (from + 1) ≡ (Some (from + 1), from + 2)
   unfolding step.optional_name
   tag_found from named =
       let e : (from + 1) + 1 ≡ from + 2 = omega arith in
@@ -168,33 +169,33 @@ module _ (text : List ℕ) (ts : List Token) (depth : ℕ) (expression : ℕ →
     leads : step.lead_at text ts earlier s ≡ Some lead
     found : IsFound (step.one_specifier text ts expression inner lead s) d (λ height. (node, role, height)) t
 
-  members_here : (from : ℕ) {d at to : ℕ} {scope after : Scope} {tag : Option Name} {all : List Member} (which : Aggregate) → IsOptionalName text ts (from + 1) at tag →
+  members_here : (from : ℕ) {d at to : ℕ} {scope after : Scope} {tag : Option ℕ} {all : List Member} (which : Aggregate) → IsOptionalName ts (from + 1) at tag →
       IsMark ts at mark.LeftBrace → AreMembers text ts d scope after (at + 1) to all → IsMark ts to mark.RightBrace → d < depth →
       IsFound (step.aggregate_here text ts inner which (state from scope)) (suc d) (λ height. (made.Members (place_at ts from) which tag all, is_type, height))
       (state (to + 1) after)
   unfolding step.aggregate_here
   members_here from {d} {at} {to} {scope} {after} {tag} {all} which named opens list closes low =
-      let f = members_behind_found text ts depth inner complete list low closes which tag from in
+      let f = members_after_found text ts depth inner complete list low closes which tag from in
       record { height = f.height; low = f.low; is = rw (optional_name_found text ts named opens, here ts at (k.Mark mark.LeftBrace) opens) f.is }
 
   tag_here : (which : Aggregate) (from : ℕ) (scope : Scope) → IsName ts (from + 1) → mark_at ts (from + 2) mark.LeftBrace ≡ false →
       step.aggregate_here text ts inner which (state from scope)
-      ≡ Some ((made.Tag (place_at ts from) which (name_at text ts (from + 1)), is_type, 0), state (from + 2) scope)
+      ≡ Some ((made.Tag (place_at ts from) which (from + 1), is_type, 0), state (from + 2) scope)
   unfolding step.aggregate_here
   tag_here which from scope named other = rw (tag_found text ts from named, other) refl
 
-  enumerators_here : (from : ℕ) {d at middle to : ℕ} {scope after : Scope} {tag : Option Name} {all : List Enumerator} → IsOptionalName text ts (from + 1) at tag →
+  enumerators_here : (from : ℕ) {d at middle to : ℕ} {scope after : Scope} {tag : Option ℕ} {all : List Enumerator} → IsOptionalName ts (from + 1) at tag →
       IsMark ts at mark.LeftBrace → AreEnumerators text ts d scope after (at + 1) middle all → ClosesList ts middle to → d ≤ depth →
       IsFound (step.enumeration_here text ts expression (state from scope)) d (λ height. (made.Enumerators (place_at ts from) tag all, is_type, height))
       (state to after)
   unfolding step.enumeration_here
   enumerators_here from {d} {at} {middle} {to} {scope} {after} {tag} {all} named opens list closes low =
-      let f = enumerators_behind_found text ts depth expression expressions list low closes tag from in
+      let f = enumerators_after_found text ts depth expression expressions list low closes tag from in
       record { height = f.height; low = f.low; is = rw (optional_name_found text ts named opens, here ts at (k.Mark mark.LeftBrace) opens) f.is }
 
   enum_tag_here : (from : ℕ) (scope : Scope) → IsName ts (from + 1) → mark_at ts (from + 2) mark.LeftBrace ≡ false →
       step.enumeration_here text ts expression (state from scope)
-      ≡ Some ((made.EnumTag (place_at ts from) (name_at text ts (from + 1)), is_type, 0), state (from + 2) scope)
+      ≡ Some ((made.EnumTag (place_at ts from) (from + 1), is_type, 0), state (from + 2) scope)
   unfolding step.enumeration_here
   enum_tag_here from scope named other = rw (tag_found text ts from named, other) refl
 
@@ -245,7 +246,7 @@ module _ (text : List ℕ) (ts : List Token) (depth : ℕ) (expression : ℕ →
       }
   specifier_found (p.named_type {from} {scope} {earlier} is known none) low other =
       record {
-        lead = step.type_name;
+        lead = step.typedef_name;
         leads = type_leads text ts earlier from scope is known none;
         found = record { height = 0; low = omega arith; is = refl };
       }

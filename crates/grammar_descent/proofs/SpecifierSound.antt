@@ -18,7 +18,8 @@ use Rattle.c_grammar.specs.declared.phrases.Specifier.{Specifier}
 use Rattle.c_grammar.specs.declared.phrases.Specifier.TheVariants as made
 use Rattle.c_grammar.specs.declared.phrases.Member.{Member}
 use Rattle.c_grammar.specs.declared.phrases.Enumerator.{Enumerator}
-use Rattle.c_grammar.specs.Tokens.{Name, kind_at, place_at, name_at, IsMark, IsWord, IsName, ClosesList}
+use Rattle.token_texts.specs.Names.{name_at}
+use Rattle.c_grammar.specs.Tokens.{kind_at, place_at, IsMark, IsWord, IsName, ClosesList}
 use Rattle.c_grammar.specs.Words.{storage_word, qualifier_word, basic_word, aggregate_word, Role, modifies, spells, is_type, storage_role, HoldsNoType}
 use Rattle.c_grammar.specs.Scope.{Scope, IsType}
 use Rattle.c_grammar.specs.Phrases.{IsSpecs, AreSpecifiers, IsSpecifier, AreMembers, AreEnumerators}
@@ -28,7 +29,7 @@ use Rattle.grammar_descent.specs.Exact.{Grows, SoundExpression, SoundSpecs}
 use Rattle.grammar_descent.specs.Types.{names_a_type}
 use Rattle.grammar_descent.specs.TypeWords.{holds_no_type, holds_one_type}
 use Rattle.grammar_descent.specs.SpecifierSteps as step
-use Rattle.grammar_descent.specs.SpecifierSteps.{Lead, word_lead, lead_by, led, tagged, FoundSpecifier}
+use Rattle.grammar_descent.specs.SpecifierSteps.{Lead, word_lead, lead_by, lead_or, tag_after, FoundSpecifier}
 use Rattle.grammar_descent.proofs.Types.{type_sound}
 use Rattle.grammar_descent.proofs.Seen.{stands, bind_some, chosen, seen, both}
 use Rattle.grammar_descent.proofs.States.{added}
@@ -47,7 +48,7 @@ module _ (text : List ℕ) (ts : List Token) where
   Means earlier s (step.basic_word which) = IsWord ts s.at (basic_word which)
   Means earlier s (step.aggregate_word which) = IsWord ts s.at (aggregate_word which)
   Means earlier s step.enum_word = IsWord ts s.at word.Enum
-  Means earlier s step.type_name = IsName ts s.at × IsType s.scope (name_at text ts s.at) × HoldsNoType earlier
+  Means earlier s step.typedef_name = IsName ts s.at × IsType s.scope (name_at text ts s.at) × HoldsNoType earlier
 
   word_means : (earlier : List Role) (s : State) (w : Keyword) (lead : Lead) → IsWord ts s.at w → word_lead w ≡ Some lead → Means earlier s lead
   word_means earlier s word.Typedef lead is h = let e : step.storage_word st.Typedef ≡ lead = cc in subst (Means earlier s) e is
@@ -74,10 +75,10 @@ module _ (text : List ℕ) (ts : List Token) where
       lead_by kind (names_a_type s.scope (name_at text ts s.at) && holds_no_type earlier) ≡ Some lead → Means earlier s lead
   kind_means earlier s (Some (k.Word w)) lead is h = word_means earlier s w lead is h
   kind_means earlier s (Some k.Name) lead is h =
-      elim (chosen (names_a_type s.scope (name_at text ts s.at) && holds_no_type earlier) (Some step.type_name) None (Some lead) h) [
+      elim (chosen (names_a_type s.scope (name_at text ts s.at) && holds_no_type earlier) (Some step.typedef_name) None (Some lead) h) [
         | inl c ↦ (
             let (known, none) = both (names_a_type s.scope (name_at text ts s.at)) (holds_no_type earlier) c.0 in
-            let e : step.type_name ≡ lead = (let i = c.1 in cc) in
+            let e : step.typedef_name ≡ lead = (let i = c.1 in cc) in
             subst (Means earlier s) e (is, type_sound s.scope (name_at text ts s.at) known, no_type_sound earlier none))
         | inr c ↦ absurd (let i = c.1 in cc)
       ]
@@ -91,8 +92,8 @@ module _ (text : List ℕ) (ts : List Token) where
   unfolding step.lead_at
   lead_means earlier s lead h = kind_means earlier s (kind_at ts s.at) lead refl h
 
-  tag_sound : (node : Name → Specifier) (s : State) (r : FoundSpecifier × State) → tagged node (step.optional_name text ts (s.at + 1)).0 s ≡ Some r →
-      IsName ts (s.at + 1) × (((node (name_at text ts (s.at + 1)), is_type, 0), past s 2) ≡ r)
+  tag_sound : (node : ℕ → Specifier) (s : State) (r : FoundSpecifier × State) → tag_after node (step.optional_name text ts (s.at + 1)).0 s ≡ Some r →
+      IsName ts (s.at + 1) × (((node (s.at + 1), is_type, 0), past s 2) ≡ r)
   unfolding step.optional_name
   tag_sound node s r h = elim (cases_Bool (sees ts (s.at + 1) k.Name)) [
     | inl c ↦ (let i = rw c at h in (stands ts (s.at + 1) k.Name c, cc))
@@ -109,12 +110,12 @@ module _ (text : List ℕ) (ts : List Token) (depth : ℕ) (expression : ℕ →
     derived : (d : ℕ) → r.0.2 ≤ d → Derives earlier s r d
     grows : Grows s.scope r.1.scope
 
-  members_behind_sound : (which : Aggregate) (tag : Option Name) (earlier : List Role) (s t : State) (r : FoundSpecifier × State) → t.scope ≡ s.scope →
+  members_after_sound : (which : Aggregate) (tag : Option ℕ) (earlier : List Role) (s t : State) (r : FoundSpecifier × State) → t.scope ≡ s.scope →
       ((d to : ℕ) (after : Scope) (all : List Member) → AreMembers text ts d s.scope after t.at to all → IsMark ts to mark.RightBrace →
       IsSpecifier text ts (suc d) s.scope after earlier is_type s.at (to + 1) (made.Members (place_at ts s.at) which tag all)) →
-      step.members_behind text ts inner which tag s.at t ≡ Some r → SpecifierRead earlier s r
-  unfolding step.members_behind
-  members_behind_sound which tag earlier s t r same made_of h =
+      step.members_after text ts inner which tag s.at t ≡ Some r → SpecifierRead earlier s r
+  unfolding step.members_after
+  members_after_sound which tag earlier s t r same made_of h =
       let (a, found, h1) = bind_some (step.members text ts inner (length ts) [] 0 t) _ r h in
       let (closes, h2) = seen ts a.1.at (k.Mark mark.RightBrace) _ r h1 in
       let g = members_sound text ts depth inner sound (length ts) [] 0 t a found in
@@ -138,19 +139,19 @@ module _ (text : List ℕ) (ts : List Token) (depth : ℕ) (expression : ℕ →
   aggregate_sound which earlier s r is h =
       let tag = step.optional_name text ts (s.at + 1) in
       elim (chosen (mark_at ts tag.1 mark.LeftBrace) _ _ (Some r) h) [
-        | inl c ↦ members_behind_sound which tag.0 earlier s (record { at = tag.1 + 1; scope = s.scope }) r refl
+        | inl c ↦ members_after_sound which tag.0 earlier s (record { at = tag.1 + 1; scope = s.scope }) r refl
             (λ d to after all list closes. p.members which is (optional_name_sound text ts (s.at + 1)) (stands ts tag.1 _ c.0) list closes) c.1
         | inr c ↦ (
             let (named, e) = tag_sound text ts (made.Tag (place_at ts s.at) which) s r c.1 in
             subst (SpecifierRead earlier s) e (record { low = omega arith; derived = λ d deep. p.tag which is named; grows = stays s.scope }))
       ]
 
-  enumerators_behind_sound : (tag : Option Name) (earlier : List Role) (s t : State) (r : FoundSpecifier × State) → t.scope ≡ s.scope →
+  enumerators_after_sound : (tag : Option ℕ) (earlier : List Role) (s t : State) (r : FoundSpecifier × State) → t.scope ≡ s.scope →
       ((d middle to : ℕ) (after : Scope) (all : List Enumerator) → AreEnumerators text ts d s.scope after t.at middle all → ClosesList ts middle to →
       IsSpecifier text ts d s.scope after earlier is_type s.at to (made.Enumerators (place_at ts s.at) tag all)) →
-      step.enumerators_behind text ts expression tag s.at t ≡ Some r → SpecifierRead earlier s r
-  unfolding step.enumerators_behind
-  enumerators_behind_sound tag earlier s t r same made_of h =
+      step.enumerators_after text ts expression tag s.at t ≡ Some r → SpecifierRead earlier s r
+  unfolding step.enumerators_after
+  enumerators_after_sound tag earlier s t r same made_of h =
       let (a, found, h1) = bind_some (step.enumerators text ts expression (length ts) [] 0 t) _ r h in
       let (to, ends, h2) = bind_some (step.closing_at text ts a.1.at) _ r h1 in
       let closes = closing_sound text ts a.1.at to ends in
@@ -173,7 +174,7 @@ module _ (text : List ℕ) (ts : List Token) (depth : ℕ) (expression : ℕ →
   enumeration_sound earlier s r is h =
       let tag = step.optional_name text ts (s.at + 1) in
       elim (chosen (mark_at ts tag.1 mark.LeftBrace) _ _ (Some r) h) [
-        | inl c ↦ enumerators_behind_sound tag.0 earlier s (record { at = tag.1 + 1; scope = s.scope }) r refl
+        | inl c ↦ enumerators_after_sound tag.0 earlier s (record { at = tag.1 + 1; scope = s.scope }) r refl
             (λ d middle to after all list closes. p.enumerators is (optional_name_sound text ts (s.at + 1)) (stands ts tag.1 _ c.0) list closes) c.1
         | inr c ↦ (
             let (named, e) = tag_sound text ts (made.EnumTag (place_at ts s.at)) s r c.1 in
@@ -193,8 +194,8 @@ module _ (text : List ℕ) (ts : List Token) (depth : ℕ) (expression : ℕ →
       subst (SpecifierRead earlier s) e (record { low = omega arith; derived = λ d deep. p.basic which is; grows = stays s.scope })
   specifier_sound (step.aggregate_word which) earlier s r is h = aggregate_sound which earlier s r is h
   specifier_sound step.enum_word earlier s r is h = enumeration_sound earlier s r is h
-  specifier_sound step.type_name earlier s r is h =
-      let e : ((made.TypeName (place_at ts s.at) (name_at text ts s.at), is_type, 0), past s 1) ≡ r = cc in
+  specifier_sound step.typedef_name earlier s r is h =
+      let e : ((made.TypedefName (place_at ts s.at), is_type, 0), past s 1) ≡ r = cc in
       subst (SpecifierRead earlier s) e (record { low = omega arith; derived = λ d deep. p.named_type is.0 is.1 is.2; grows = stays s.scope })
 
   -- ---- the whole
@@ -235,7 +236,7 @@ module _ (text : List ℕ) (ts : List Token) (depth : ℕ) (expression : ℕ →
         grows = grows_on one.grows more.grows;
       }
 
-  led_parts : {A : Type 0} (lead : Option Lead) (next : Lead → A) (stop y : A) → led lead next stop ≡ y →
+  led_parts : {A : Type 0} (lead : Option Lead) (next : Lead → A) (stop y : A) → lead_or lead next stop ≡ y →
       ((l : Lead) × (lead ≡ Some l) × (next l ≡ y)) ⊎ (stop ≡ y)
   led_parts (Some l) next stop y h = inl (l, refl, h)
   led_parts None next stop y h = inr h

@@ -1,19 +1,23 @@
 -- How expressions and declarators begin.
-use Rattle.std.proofs.Common.{◌≡◌, ◌≢◌, ℕ, ◌<◌, List, Option, Some, None, Bool, true, false, ◌⊎◌, inl, inr, refl, ap, arith}
+use Rattle.std.proofs.Common.{◌≡◌, ◌≢◌, ℕ, ◌<◌, List, Option, Some, Bool, true, false, ◌⊎◌, inl, inr, refl, ap, arith}
 use Rattle.c_tokens.specs.declared.token.Token.{Token}
 use Rattle.c_tokens.specs.declared.kind.Kind.{Kind}
 use Rattle.c_tokens.specs.declared.kind.Kind.TheVariants as k
 use Rattle.c_tokens.specs.declared.kind.Keyword.TheVariants as word
 use Rattle.c_tokens.specs.declared.kind.Mark.TheVariants as mark
+use Rattle.c_grammar.specs.declared.words.Naming.TheVariants as naming
+use Rattle.c_grammar.specs.declared.words.Naming.{Naming}
 use Rattle.c_grammar.specs.declared.words.Prefix.{Prefix}
 use Rattle.c_grammar.specs.declared.words.Prefix.TheVariants as prefix
 use Rattle.c_grammar.specs.declared.phrases.Expression.{Expression}
 use Rattle.c_grammar.specs.declared.phrases.Declarator.{Declarator}
-use Rattle.c_grammar.specs.Tokens.{Name, kind_at, name_at, AreStrings, last, more, IsString, IsMark}
+use Rattle.c_tokens.specs.Names.{Name}
+use Rattle.token_texts.specs.Names.{name_at}
+use Rattle.c_grammar.specs.Tokens.{kind_at, AreStrings, last, more, IsString, IsMark}
 use Rattle.c_grammar.specs.Scope.{Scope}
 use Rattle.c_grammar.specs.Operators.{prefix_mark}
 use Rattle.c_grammar.specs.Phrases as p
-use Rattle.c_grammar.specs.Phrases.{Form, Grip, declares, IsExpression, IsDeclarator}
+use Rattle.c_grammar.specs.Phrases.{DeclaratorKind, IsExpression, IsDeclarator}
 use Rattle.grammar_descent.specs.Follow.{ends_specs}
 use Rattle.grammar_descent.specs.Types.{begins_specs}
 use Rattle.grammar_descent.proofs.Types.{type_missed}
@@ -77,8 +81,8 @@ module _ {text : List ℕ} {ts : List Token} where
   expression_begins (p.size_of_type low is opens a closes) = rw is refl
   expression_begins (p.cast_to low is a closes b) = rw is refl
   expression_begins (p.binary op low a is b) = expression_begins a
-  expression_begins (p.choice low a is b colon c) = expression_begins a
-  expression_begins (p.assign op low a is b) = expression_begins a
+  expression_begins (p.conditional low a is b colon c) = expression_begins a
+  expression_begins (p.assignment op low a is b) = expression_begins a
   expression_begins (p.comma low a is all) = expression_begins a
 
   -- no specifiers begin where an expression does
@@ -100,8 +104,8 @@ module _ {text : List ℕ} {ts : List Token} where
   expression_no_specs (p.size_of_type low is opens a closes) = rw is refl
   expression_no_specs (p.cast_to low is a closes b) = rw is refl
   expression_no_specs (p.binary op low a is b) = expression_no_specs a
-  expression_no_specs (p.choice low a is b colon c) = expression_no_specs a
-  expression_no_specs (p.assign op low a is b) = expression_no_specs a
+  expression_no_specs (p.conditional low a is b colon c) = expression_no_specs a
+  expression_no_specs (p.assignment op low a is b) = expression_no_specs a
   expression_no_specs (p.comma low a is all) = expression_no_specs a
 
   -- another token begins an expression
@@ -110,23 +114,24 @@ module _ {text : List ℕ} {ts : List Token} where
   expression_instead is kind none h = let some = expression_begins is in let same = ap begins_expression h in cc
 
   -- A declarator has no token, or begins with one of a declarator.
-  pub declarator_begins : {form : Form} {grip : Grip} {depth from to : ℕ} {scope after : Scope} {name : Option Name} {own : Option Scope} {d : Declarator} →
-      IsDeclarator text ts form grip depth scope after from to name own d → (from ≡ to) ⊎ (begins_declarator (kind_at ts from) ≡ true)
+  pub declarator_begins : {how : Naming} {kind : DeclaratorKind} {depth from to : ℕ} {scope after : Scope} {name : Option Name} {own : Option Scope} {d : Declarator} →
+      IsDeclarator text ts how kind depth scope after from to name own d → (from ≡ to) ⊎ (begins_declarator (kind_at ts from) ≡ true)
   declarator_begins (p.declared_name is) = inr (rw is refl)
   declarator_begins (p.parameter_name is) = inr (rw is refl)
   declarator_begins p.no_name = inl refl
+  declarator_begins p.no_parameter_name = inl refl
   declarator_begins (p.pointer is all a) = inr (rw is refl)
-  declarator_begins (p.enclosed is may a some closes) = inr (rw is refl)
+  declarator_begins (p.in_parentheses is may a some closes) = inr (rw is refl)
   declarator_begins {from} {to} (p.open_array {at} a is closes) = grown ts from at to (inl is) (declarator_begins a)
   declarator_begins {from} {to} (p.array {at} a is b closes) = grown ts from at to (inl is) (declarator_begins a)
   declarator_begins {from} {to} (p.function {at} a is all closes) = grown ts from at to (inr is) (declarator_begins a)
 
   -- that of a name has some
-  pub named_moves : {grip : Grip} {depth from to : ℕ} {scope after : Scope} {name : Option Name} {own : Option Scope} {d : Declarator} →
-      IsDeclarator text ts declares grip depth scope after from to name own d → from < to
+  pub named_moves : {kind : DeclaratorKind} {depth from to : ℕ} {scope after : Scope} {name : Option Name} {own : Option Scope} {d : Declarator} →
+      IsDeclarator text ts naming.Named kind depth scope after from to name own d → from < to
   named_moves (p.declared_name is) = omega arith
   named_moves (p.pointer is all a) = let i = qualifiers_move ts all in let j = named_moves a in omega arith
-  named_moves (p.enclosed is may a some closes) = omega arith
+  named_moves (p.in_parentheses is may a some closes) = omega arith
   named_moves (p.open_array a is closes) = let i = named_moves a in omega arith
   named_moves (p.array a is b closes) = let i = expression_moves text ts b in let j = named_moves a in omega arith
   named_moves (p.function a is all closes) = let i = parameters_move text ts all in let j = named_moves a in omega arith
@@ -140,12 +145,12 @@ specs_end-by _ h = absurd cc
 
 module _ {text : List ℕ} {ts : List Token} where
   -- specifiers end before a declarator of a name, and no semicolon begins one
-  pub specs_end : {grip : Grip} {depth from to : ℕ} {scope after : Scope} {name : Option Name} {own : Option Scope} {d : Declarator} →
-      IsDeclarator text ts declares grip depth scope after from to name own d → ends_specs (kind_at ts from) ≡ true
+  pub specs_end : {kind : DeclaratorKind} {depth from to : ℕ} {scope after : Scope} {name : Option Name} {own : Option Scope} {d : Declarator} →
+      IsDeclarator text ts naming.Named kind depth scope after from to name own d → ends_specs (kind_at ts from) ≡ true
   specs_end is = elim (declarator_begins is) [ inl none ↦ absurd (let some = named_moves is in omega arith) | inr some ↦ specs_end-by _ some ]
 
-  pub no_semicolon : {grip : Grip} {depth from to : ℕ} {scope after : Scope} {name : Option Name} {own : Option Scope} {d : Declarator} →
-      IsDeclarator text ts declares grip depth scope after from to name own d → kind_at ts from ≢ Some (k.Mark mark.Semicolon)
+  pub no_semicolon : {kind : DeclaratorKind} {depth from to : ℕ} {scope after : Scope} {name : Option Name} {own : Option Scope} {d : Declarator} →
+      IsDeclarator text ts naming.Named kind depth scope after from to name own d → kind_at ts from ≢ Some (k.Mark mark.Semicolon)
   no_semicolon is h = elim (declarator_begins is) [
     | inl none ↦ (let some = named_moves is in omega arith)
     | inr some ↦ (let ended = ap begins_declarator h in cc)

@@ -6,6 +6,7 @@ use Rattle.c_tokens.specs.declared.kind.Kind.TheVariants as k
 use Rattle.c_tokens.specs.declared.kind.Keyword.TheVariants as word
 use Rattle.c_tokens.specs.declared.kind.Mark.{Mark}
 use Rattle.c_tokens.specs.declared.kind.Mark.TheVariants as mark
+use Rattle.c_grammar.specs.declared.words.Level.TheVariants as of
 use Rattle.c_grammar.specs.declared.phrases.Expression.{Expression}
 use Rattle.c_grammar.specs.declared.statements.Declaration.{Declaration}
 use Rattle.c_grammar.specs.declared.statements.Block.{Block}
@@ -17,7 +18,7 @@ use Rattle.c_grammar.specs.declared.statements.Statement.{Statement}
 use Rattle.c_grammar.specs.declared.statements.Statement.TheVariants as node
 use Rattle.c_grammar.specs.Tokens.{kind_at, place_at, IsMark, IsWord}
 use Rattle.c_grammar.specs.Scope.{Scope}
-use Rattle.c_grammar.specs.Operators.{any, conditional}
+use Rattle.c_grammar.specs.Operators.{tightness}
 use Rattle.c_grammar.specs.Phrases.{IsExpression}
 use Rattle.c_grammar.specs.Initialisers.{IsDeclaration, of_no_name, of_names}
 use Rattle.c_grammar.specs.Statements as g
@@ -26,7 +27,7 @@ use Rattle.grammar_descent.specs.Reading.{State, Reading, Readers}
 use Rattle.grammar_descent.specs.Follow.{ends}
 use Rattle.grammar_descent.specs.Exact.{Exact}
 use Rattle.grammar_descent.specs.Types.{begins_specs}
-use Rattle.grammar_descent.specs.InitialiserSteps.{expression, declaration}
+use Rattle.grammar_descent.specs.InitialiserSteps.{expression_at, declaration}
 use Rattle.grammar_descent.specs.StatementSteps as step
 use Rattle.grammar_descent.specs.StatementSteps.{back}
 use Rattle.grammar_descent.proofs.Types.{specs_begin}
@@ -145,23 +146,23 @@ module _ {text : List ℕ} {ts : List Token} where
 
 module _ (text : List ℕ) (ts : List Token) (phrases : ℕ → Readers) (depth : ℕ) where
   closed_is : (level from to : ℕ) (scope after : Scope) (e : Expression) (m : Mark) →
-      expression ts phrases depth level (state from scope) ≡ Some (e, state to after) → IsMark ts to m →
-      step.closed text ts phrases depth level m (state from scope) ≡ Some (e, state (to + 1) after)
-  unfolding step.closed
+      expression_at ts phrases depth level (state from scope) ≡ Some (e, state to after) → IsMark ts to m →
+      step.expression_before text ts phrases depth level m (state from scope) ≡ Some (e, state (to + 1) after)
+  unfolding step.expression_before
   closed_is level from to scope after e m found is = rw (found, here ts to _ is) refl
 
   optional-nothing : (at : ℕ) (scope : Scope) (m : Mark) → IsMark ts at m →
-      step.optional text ts phrases depth m (state at scope) ≡ Some (None, state (at + 1) scope)
-  unfolding step.optional
+      step.optional_before text ts phrases depth m (state at scope) ≡ Some (None, state (at + 1) scope)
+  unfolding step.optional_before
   optional-nothing at scope m is = rw (here ts at _ is) refl
 
   optional-some : (from : ℕ) (scope : Scope) (m : Mark) (e : Expression) (t : State) → kind_at ts from ≢ Some (k.Mark m) →
-      step.closed text ts phrases depth any m (state from scope) ≡ Some (e, t) → step.optional text ts phrases depth m (state from scope) ≡ Some (Some e, t)
-  unfolding step.optional
+      step.expression_before text ts phrases depth (tightness of.Comma) m (state from scope) ≡ Some (e, t) → step.optional_before text ts phrases depth m (state from scope) ≡ Some (Some e, t)
+  unfolding step.optional_before
   optional-some from scope m e t other found = rw (not_here ts from _ other, found) refl
 
   condition_is : (from : ℕ) (scope : Scope) (e : Expression) (t : State) → IsMark ts (from + 1) mark.LeftParen →
-      step.closed text ts phrases depth any mark.RightParen (state (from + 2) scope) ≡ Some (e, t) →
+      step.expression_before text ts phrases depth (tightness of.Comma) mark.RightParen (state (from + 2) scope) ≡ Some (e, t) →
       step.condition text ts phrases depth (state from scope) ≡ Some (e, t)
   unfolding step.condition
   condition_is from scope e t opens found = rw (here ts (from + 1) _ opens, found) refl
@@ -172,39 +173,39 @@ module _ (text : List ℕ) (ts : List Token) (phrases : ℕ → Readers) (depth 
   start-declaration from scope d t begins found = rw (begins, found) refl
 
   start-expression : (from : ℕ) (scope : Scope) (e : Option Expression) (t : State) → begins_specs text ts scope from ≡ false →
-      step.optional text ts phrases depth mark.Semicolon (state from scope) ≡ Some (e, t) →
+      step.optional_before text ts phrases depth mark.Semicolon (state from scope) ≡ Some (e, t) →
       step.for_start text ts phrases depth (state from scope) ≡ Some (begin.Expression e, t)
   unfolding step.for_start
   start-expression from scope e t other found = rw (other, found) refl
 
   by_itself_is : (from : ℕ) (scope : Scope) (m : Mark) (whole : Statement) → IsMark ts (from + 1) m →
-      step.by_itself text ts phrases depth m whole (state from scope) ≡ Some (whole, state (from + 2) scope)
-  unfolding step.by_itself
+      step.word_before text ts phrases depth m whole (state from scope) ≡ Some (whole, state (from + 2) scope)
+  unfolding step.word_before
   by_itself_is from scope m whole is = rw (here ts (from + 1) _ is) refl
 
   of_expression_is : (from : ℕ) (scope : Scope) (e : Expression) (t : State) →
-      step.closed text ts phrases depth any mark.Semicolon (state from scope) ≡ Some (e, t) →
-      step.of_expression text ts phrases depth (state from scope) ≡ Some (node.Expression (place_at ts from) e, t)
-  unfolding step.of_expression
+      step.expression_before text ts phrases depth (tightness of.Comma) mark.Semicolon (state from scope) ≡ Some (e, t) →
+      step.expression_statement text ts phrases depth (state from scope) ≡ Some (node.Expression (place_at ts from) e, t)
+  unfolding step.expression_statement
   of_expression_is from scope e t found = rw found refl
 
-  labelled_is : (from : ℕ) (scope : Scope) (e : Expression) (t : State) →
-      step.closed text ts phrases depth conditional mark.Colon (state (from + 1) scope) ≡ Some (e, t) →
-      step.labelled text ts phrases depth (state from scope) ≡ Some (node.Case (place_at ts from) e, t)
-  unfolding step.labelled
-  labelled_is from scope e t found = rw found refl
+  case_is : (from : ℕ) (scope : Scope) (e : Expression) (t : State) →
+      step.expression_before text ts phrases depth (tightness of.Conditional) mark.Colon (state (from + 1) scope) ≡ Some (e, t) →
+      step.case_label text ts phrases depth (state from scope) ≡ Some (node.Case (place_at ts from) e, t)
+  unfolding step.case_label
+  case_is from scope e t found = rw found refl
 
-  returned_is : (from : ℕ) (scope : Scope) (e : Option Expression) (t : State) →
-      step.optional text ts phrases depth mark.Semicolon (state (from + 1) scope) ≡ Some (e, t) →
-      step.returned text ts phrases depth (state from scope) ≡ Some (node.Return (place_at ts from) e, t)
-  unfolding step.returned
-  returned_is from scope e t found = rw found refl
+  return_is : (from : ℕ) (scope : Scope) (e : Option Expression) (t : State) →
+      step.optional_before text ts phrases depth mark.Semicolon (state (from + 1) scope) ≡ Some (e, t) →
+      step.return_statement text ts phrases depth (state from scope) ≡ Some (node.Return (place_at ts from) e, t)
+  unfolding step.return_statement
+  return_is from scope e t found = rw found refl
 
-  switched_is : (block : Reading Block) (from at to : ℕ) (scope one after : Scope) (e : Expression) (b : Block) →
+  switch_is : (block : Reading Block) (from at to : ℕ) (scope one after : Scope) (e : Expression) (b : Block) →
       step.condition text ts phrases depth (state from scope) ≡ Some (e, state at one) → block (state at one) ≡ Some (b, state to after) →
-      step.switched text ts phrases depth block (state from scope) ≡ Some (node.Switch (place_at ts from) e b, state to scope)
-  unfolding step.switched
-  switched_is block from at to scope one after e b found body = rw (found, body) refl
+      step.switch_statement text ts phrases depth block (state from scope) ≡ Some (node.Switch (place_at ts from) e b, state to scope)
+  unfolding step.switch_statement
+  switch_is block from at to scope one after e b found body = rw (found, body) refl
 
   module _ (inner : Reading Statement) where
     item-declaration : (from : ℕ) (scope : Scope) (d : Declaration) (t : State) → begins_specs text ts scope from ≡ true →
@@ -236,48 +237,48 @@ module _ (text : List ℕ) (ts : List Token) (phrases : ℕ → Readers) (depth 
     block_of_is from to scope after all opens found = rw (here ts from _ opens, found) refl
 
     whole_block_is : (s : State) (b : Block) (t : State) → step.block_of text ts phrases depth inner s ≡ Some (b, t) →
-        step.whole_block text ts phrases depth inner s ≡ Some (node.Block b, t)
-    unfolding step.whole_block
+        step.block_statement text ts phrases depth inner s ≡ Some (node.Block b, t)
+    unfolding step.block_statement
     whole_block_is s b t found = rw found refl
 
     alone_is : (from at to : ℕ) (scope one two : Scope) (e : Expression) (s : Statement) →
         step.condition text ts phrases depth (state from scope) ≡ Some (e, state at one) → inner (state at one) ≡ Some (s, state to two) →
-        (IsWord ts to word.Else → ⊥) → step.selected text ts phrases depth inner (state from scope) ≡ Some (node.If (place_at ts from) e s, state to scope)
-    unfolding step.selected step.otherwise
+        (IsWord ts to word.Else → ⊥) → step.if_statement text ts phrases depth inner (state from scope) ≡ Some (node.If (place_at ts from) e s, state to scope)
+    unfolding step.if_statement step.else_after
     alone_is from at to scope one two e s found body other = rw (found, body, not_here ts to (k.Word word.Else) other) refl
 
     else_is : (from at middle to : ℕ) (scope one two three : Scope) (e : Expression) (s other : Statement) →
         step.condition text ts phrases depth (state from scope) ≡ Some (e, state at one) → inner (state at one) ≡ Some (s, state middle two) →
         IsWord ts middle word.Else → inner (state (middle + 1) one) ≡ Some (other, state to three) →
-        step.selected text ts phrases depth inner (state from scope) ≡ Some (node.IfElse (place_at ts from) e s other, state to scope)
-    unfolding step.selected step.otherwise
+        step.if_statement text ts phrases depth inner (state from scope) ≡ Some (node.IfElse (place_at ts from) e s other, state to scope)
+    unfolding step.if_statement step.else_after
     else_is from at middle to scope one two three e s other found body else rest = rw (found, body, here ts middle _ else, rest) refl
 
-    repeated_is : (from at to : ℕ) (scope one two : Scope) (e : Expression) (s : Statement) →
+    while_is : (from at to : ℕ) (scope one two : Scope) (e : Expression) (s : Statement) →
         step.condition text ts phrases depth (state from scope) ≡ Some (e, state at one) → inner (state at one) ≡ Some (s, state to two) →
-        step.repeated text ts phrases depth inner (state from scope) ≡ Some (node.While (place_at ts from) e s, state to scope)
-    unfolding step.repeated
-    repeated_is from at to scope one two e s found body = rw (found, body) refl
+        step.while_statement text ts phrases depth inner (state from scope) ≡ Some (node.While (place_at ts from) e s, state to scope)
+    unfolding step.while_statement
+    while_is from at to scope one two e s found body = rw (found, body) refl
 
-    done_is : (from at to : ℕ) (scope one two : Scope) (s : Statement) (e : Expression) → inner (state (from + 1) scope) ≡ Some (s, state at one) →
+    do_is : (from at to : ℕ) (scope one two : Scope) (s : Statement) (e : Expression) → inner (state (from + 1) scope) ≡ Some (s, state at one) →
         IsWord ts at word.While → step.condition text ts phrases depth (state at scope) ≡ Some (e, state (to + 1) two) → IsMark ts (to + 1) mark.Semicolon →
-        step.done text ts phrases depth inner (state from scope) ≡ Some (node.Do (place_at ts from) s e, state (to + 2) scope)
-    unfolding step.done
-    done_is from at to scope one two s e body word found end =
+        step.do_statement text ts phrases depth inner (state from scope) ≡ Some (node.Do (place_at ts from) s e, state (to + 2) scope)
+    unfolding step.do_statement
+    do_is from at to scope one two s e body word found end =
         let same : to + 1 + 1 ≡ to + 2 = omega arith in
         rw (body, here ts at _ word, found, here ts (to + 1) _ end) (ap (λ n. Some (node.Do (place_at ts from) s e, state n scope)) same)
 
-    counted_is : (from to : ℕ) (scope four : Scope) (one two three : State) (start : ForStart) (test move : Option Expression) (s : Statement) →
+    for_is : (from to : ℕ) (scope four : Scope) (one two three : State) (start : ForStart) (test move : Option Expression) (s : Statement) →
         IsMark ts (from + 1) mark.LeftParen → step.for_start text ts phrases depth (state (from + 2) scope) ≡ Some (start, one) →
-        step.optional text ts phrases depth mark.Semicolon one ≡ Some (test, two) → step.optional text ts phrases depth mark.RightParen two ≡ Some (move, three) →
+        step.optional_before text ts phrases depth mark.Semicolon one ≡ Some (test, two) → step.optional_before text ts phrases depth mark.RightParen two ≡ Some (move, three) →
         inner three ≡ Some (s, state to four) →
-        step.counted text ts phrases depth inner (state from scope) ≡ Some (node.For (place_at ts from) start test move s, state to scope)
-    unfolding step.counted
-    counted_is from to scope four one two three start test move s opens a b c body = rw (here ts (from + 1) _ opens, a, b, c, body) refl
+        step.for_statement text ts phrases depth inner (state from scope) ≡ Some (node.For (place_at ts from) start test move s, state to scope)
+    unfolding step.for_statement
+    for_is from to scope four one two three start test move s opens a b c body = rw (here ts (from + 1) _ opens, a, b, c, body) refl
 
   -- what begins an expression begins a statement of an expression
   expression_by : (inner : Reading Statement) (block : Reading Block) (s : State) (kind : Option Kind) → begins_expression kind ≡ true →
-      step.statement_by text ts phrases depth inner block s kind ≡ step.of_expression text ts phrases depth s
+      step.statement_by text ts phrases depth inner block s kind ≡ step.expression_statement text ts phrases depth s
   expression_by inner block s (Some (k.Word word.Sizeof)) h = refl
   expression_by inner block s (Some (k.Word w)) h = absurd cc
   expression_by inner block s (Some (k.Mark mark.LeftBrace)) h = absurd cc
@@ -300,20 +301,20 @@ module _ (text : List ℕ) (ts : List Token) (phrases : ℕ → Readers) where
 module _ (text : List ℕ) (ts : List Token) (phrases : ℕ → Readers) (exact : (d : ℕ) → Exact text ts d (phrases d)) where
   finds_closed : {d level from to : ℕ} {scope after : Scope} {e : Expression} → IsExpression text ts d level scope after from to e →
       (depth : ℕ) → d ≤ depth → (m : Mark) → IsMark ts to m → ends level (Some (k.Mark m)) ≡ true →
-      step.closed text ts phrases depth level m (state from scope) ≡ Some (e, state (to + 1) after)
-  finds_closed {level} {from} {to} {scope} {after} {e} is depth low m closes tie =
-      closed_is text ts phrases depth level from to scope after e m (finds_expression text ts phrases exact is depth low (rw closes tie)) closes
+      step.expression_before text ts phrases depth level m (state from scope) ≡ Some (e, state (to + 1) after)
+  finds_closed {level} {from} {to} {scope} {after} {e} is depth low m closes kind_level =
+      closed_is text ts phrases depth level from to scope after e m (finds_expression text ts phrases exact is depth low (rw closes kind_level)) closes
 
   finds_optional : {d from to : ℕ} {scope after : Scope} {e : Option Expression} → IsOptional text ts d scope after from to e →
-      (depth : ℕ) → d ≤ depth → (m : Mark) → IsMark ts to m → ends any (Some (k.Mark m)) ≡ true → begins_expression (Some (k.Mark m)) ≡ false →
-      step.optional text ts phrases depth m (state from scope) ≡ Some (e, state (to + 1) after)
-  finds_optional (g.absent {at} {scope}) depth low m closes tie other = optional-nothing text ts phrases depth at scope m closes
-  finds_optional (g.present {from} {to} {scope} {after} {value} is) depth low m closes tie other =
+      (depth : ℕ) → d ≤ depth → (m : Mark) → IsMark ts to m → ends (tightness of.Comma) (Some (k.Mark m)) ≡ true → begins_expression (Some (k.Mark m)) ≡ false →
+      step.optional_before text ts phrases depth m (state from scope) ≡ Some (e, state (to + 1) after)
+  finds_optional (g.absent {at} {scope}) depth low m closes kind_level other = optional-nothing text ts phrases depth at scope m closes
+  finds_optional (g.present {from} {to} {scope} {after} {value} is) depth low m closes kind_level other =
       optional-some text ts phrases depth from scope m value (state (to + 1) after) (expression_instead is (k.Mark m) other)
-      (finds_closed is depth low m closes tie)
+      (finds_closed is depth low m closes kind_level)
 
   finds_condition : (from : ℕ) {d at : ℕ} {scope one : Scope} {e : Expression} → IsMark ts (from + 1) mark.LeftParen →
-      IsExpression text ts d any scope one (from + 2) at e → IsMark ts at mark.RightParen → (depth : ℕ) → d ≤ depth →
+      IsExpression text ts d (tightness of.Comma) scope one (from + 2) at e → IsMark ts at mark.RightParen → (depth : ℕ) → d ≤ depth →
       step.condition text ts phrases depth (state from scope) ≡ Some (e, state (at + 1) one)
   finds_condition from {at} {scope} {one} {e} opens is closes depth low =
       condition_is text ts phrases depth from scope e (state (at + 1) one) opens (finds_closed is depth low mark.RightParen closes refl)
@@ -349,25 +350,25 @@ module _ (text : List ℕ) (ts : List Token) (phrases : ℕ → Readers) (exact 
         (finds_condition from opens is closes depth (omega arith)) (finds_statement body depth (omega arith)) else (finds_statement other depth (omega arith))
     finds_statement (g.while {from} {at} {to} {scope} {one} {two} {test} {body = inner} word opens is closes body) (suc depth) low =
         statement_at text ts phrases depth from scope _ word
-        ∙ repeated_is text ts phrases depth (step.statement text ts phrases depth) from (at + 1) to scope one two test inner
+        ∙ while_is text ts phrases depth (step.statement text ts phrases depth) from (at + 1) to scope one two test inner
         (finds_condition from opens is closes depth (omega arith)) (finds_statement body depth (omega arith))
     finds_statement (g.do_while {from} {at} {to} {scope} {one} {two} {body = inner} {test} word body while opens is closes end) (suc depth) low =
         statement_at text ts phrases depth from scope _ word
-        ∙ done_is text ts phrases depth (step.statement text ts phrases depth) from at to scope one two inner test
+        ∙ do_is text ts phrases depth (step.statement text ts phrases depth) from at to scope one two inner test
         (finds_statement body depth (omega arith)) while (finds_condition at opens is closes depth (omega arith)) end
     finds_statement (g.for {from} {at} {middle} {last} {to} {scope} {one} {two} {three} {four} {start} {test = second} {step = third} {body = inner} word opens first test end move closes body)
         (suc depth) low =
         statement_at text ts phrases depth from scope _ word
-        ∙ counted_is text ts phrases depth (step.statement text ts phrases depth) from to scope four (state at one) (state (middle + 1) two) (state (last + 1) three) start second third inner
+        ∙ for_is text ts phrases depth (step.statement text ts phrases depth) from to scope four (state at one) (state (middle + 1) two) (state (last + 1) three) start second third inner
         opens (finds_start first depth (omega arith)) (finds_optional test depth (omega arith) mark.Semicolon end refl refl)
         (finds_optional move depth (omega arith) mark.RightParen closes refl refl) (finds_statement body depth (omega arith))
     finds_statement (g.switch {from} {at} {to} {scope} {one} {value} {body = inner} word opens is closes body) (suc depth) low =
         statement_at text ts phrases depth from scope _ word
-        ∙ switched_is text ts phrases depth (step.block text ts phrases depth) from (at + 1) to scope one one value inner
+        ∙ switch_is text ts phrases depth (step.block text ts phrases depth) from (at + 1) to scope one one value inner
         (finds_condition from opens is closes depth (omega arith)) (finds_block body depth (omega arith))
     finds_statement (g.case {from} {to} {scope} {after} {value} word is end) (suc depth) low =
         statement_at text ts phrases depth from scope _ word
-        ∙ labelled_is text ts phrases depth from scope value (state (to + 1) after) (finds_closed is depth (omega arith) mark.Colon end refl)
+        ∙ case_is text ts phrases depth from scope value (state (to + 1) after) (finds_closed is depth (omega arith) mark.Colon end refl)
     finds_statement (g.default {from} {scope} word end) (suc depth) low =
         statement_at text ts phrases depth from scope _ word ∙ by_itself_is text ts phrases depth from scope mark.Colon (node.Default (place_at ts from)) end
     finds_statement (g.break {from} {scope} word end) (suc depth) low =
@@ -376,7 +377,7 @@ module _ (text : List ℕ) (ts : List Token) (phrases : ℕ → Readers) (exact 
         statement_at text ts phrases depth from scope _ word ∙ by_itself_is text ts phrases depth from scope mark.Semicolon (node.Continue (place_at ts from)) end
     finds_statement (g.return {from} {to} {scope} {after} {value} word is end) (suc depth) low =
         statement_at text ts phrases depth from scope _ word
-        ∙ returned_is text ts phrases depth from scope value (state (to + 1) after) (finds_optional is depth (omega arith) mark.Semicolon end refl refl)
+        ∙ return_is text ts phrases depth from scope value (state (to + 1) after) (finds_optional is depth (omega arith) mark.Semicolon end refl refl)
 
     pub finds_block : {d from to : ℕ} {scope : Scope} {b : Block} → IsBlock text ts d scope from to b → (depth : ℕ) → d ≤ depth →
         step.block text ts phrases depth (state from scope) ≡ Some (b, state to scope)

@@ -2,9 +2,11 @@
 use Rattle.std.proofs.Common.{◌≡◌, ℕ, Bool, true, false, ◌&&◌, ◌||◌, List, [], ◌∷◌, ◌++◌, Option, Some, refl, ap, ◌∙◌, append_assoc}
 use Rattle.c_tokens.specs.declared.kind.Kind.{Kind}
 use Rattle.c_tokens.specs.declared.token.Token.{Token}
+use Rattle.c_tokens.specs.Names.{Name}
+use Rattle.c_grammar.specs.declared.phrases.Declarator.{Declarator}
 use Rattle.c_grammar.specs.Tokens.{kind_at}
 use Rattle.c_grammar.specs.Scope.{Scope}
-use Rattle.grammar_descent.specs.Reading.{State, sees}
+use Rattle.grammar_descent.specs.Reading.{State, FoundDeclarator, sees}
 use Rattle.grammar_descent.specs.Exact.{IsFound}
 use Rattle.grammar_descent.proofs.Seen.{not_here}
 
@@ -28,10 +30,13 @@ pub added : {A : Type 0} (found : List A) (one : A) (rest : List A) → (found +
 added found one rest = append_assoc found (one ∷ []) rest
 
 -- what is found with the rest of a list is found with the item before it
-pub rest_found : {A : Type 0} {answer : Option ((List A × ℕ) × State)} {d : ℕ} {behind : State} (found : List A) (one : A) (rest : List A) →
-    IsFound answer d (λ height. ((found ++ one ∷ []) ++ rest, height)) behind → IsFound answer d (λ height. (found ++ one ∷ rest, height)) behind
-rest_found {behind} found one rest f = record {
+pub rest_found : {A : Type 0} {answer : Option ((List A × ℕ) × State)} {d : ℕ} {after : State} (found : List A) (one : A) (rest : List A) →
+    IsFound answer d (λ height. ((found ++ one ∷ []) ++ rest, height)) after → IsFound answer d (λ height. (found ++ one ∷ rest, height)) after
+rest_found {after} found one rest f = record {
   height = f.height;
   low = f.low;
-  is = f.is ∙ ap (λ l. Some ((l, f.height), behind)) (added found one rest);
+  is = f.is ∙ ap (λ l. Some ((l, f.height), after)) (added found one rest);
 }
+
+abbrev pub as_found : Declarator → Option Name → Option Scope → ℕ → FoundDeclarator
+as_found node name own height = record { node = node; name = name; own = own; height = height }

@@ -8,6 +8,8 @@ use Rattle.std.proofs.lemmas.List.Elements.{All-contains}
 use Rattle.std.proofs.lemmas.List.Sorted.{length_permutation}
 use Rattle.c_tokens.specs.declared.kind.Keyword.{Keyword}
 use Rattle.c_tokens.specs.declared.token.Token.{Token}
+use Rattle.c_grammar.specs.declared.words.NameKind.TheVariants as declares
+use Rattle.c_grammar.specs.declared.words.NameKind.{NameKind}
 use Rattle.c_grammar.specs.declared.words.Storage.{Storage}
 use Rattle.c_grammar.specs.declared.words.Storage.TheVariants as st
 use Rattle.c_grammar.specs.declared.words.Qualifier.{Qualifier}
@@ -19,9 +21,10 @@ use Rattle.c_grammar.specs.declared.words.Aggregate.{Aggregate}
 use Rattle.c_grammar.specs.declared.words.Aggregate.TheVariants as ag
 use Rattle.c_grammar.specs.declared.phrases.Specs.{Specs}
 use Rattle.c_grammar.specs.declared.phrases.Specifier.{Specifier}
-use Rattle.c_grammar.specs.Tokens.{Name, IsWord}
+use Rattle.c_tokens.specs.Names.{Name}
+use Rattle.c_grammar.specs.Tokens.{IsWord}
 use Rattle.c_grammar.specs.Words.{Role, storage_word, qualifier_word, basic_word, aggregate_word, spellings, Spells, HoldsOneType, spelled, by_itself}
-use Rattle.c_grammar.specs.Scope.{Scope, Use, a_type, no_type, IsType, declared, before}
+use Rattle.c_grammar.specs.Scope.{Scope, IsType, declared, before}
 use Rattle.c_grammar.specs.Phrases.{IsSpecs, specs, AreSpecifiers, no_specifiers, more_specifiers, IsSpecifier, storage, qualifier, basic, members, tag, enumerators, enum_tag, named_type}
 use Rattle.grammar_descent.specs.Follow.{is_specifier_word}
 use Rattle.grammar_descent.specs.Types.{declares_type, names_a_type, begins_specs}
@@ -46,7 +49,7 @@ other_name a b apart = elim (cases_Bool (bytes_eq a b)) [ inl y ↦ absurd (apar
 pub type_found : {scope : Scope} {name : Name} → IsType scope name → names_a_type scope name ≡ true
 unfolding names_a_type
 type_found (declared {scope} {name}) = rw (name_self name name refl) refl
-type_found (before {scope} {name} {other} {u} apart is) = rw (other_name other name apart) (type_found is)
+type_found (before {scope} {name} {other} apart is) = rw (other_name other name apart) (type_found is)
 
 -- what is found to be a type is one
 pub type_sound : (scope : Scope) (name : Name) → names_a_type scope name ≡ true → IsType scope name
@@ -54,9 +57,9 @@ unfolding names_a_type
 type_sound [] name h = absurd cc
 type_sound ((other, u) ∷ scope) name h = by_test (bytes_eq other name) u (type_sound scope name) refl h
   where
-    by_test : (b : Bool) (u : Use) → (names_a_type scope name ≡ true → IsType scope name) → bytes_eq other name ≡ b → cond b (declares_type u) (names_a_type scope name) ≡ true → IsType ((other, u) ∷ scope) name
-    by_test true a_type later same h = subst (λ (n : Name). IsType ((other, a_type) ∷ scope) n) (same_name other name same) declared
-    by_test true no_type later same h = absurd cc
+    by_test : (b : Bool) (u : NameKind) → (names_a_type scope name ≡ true → IsType scope name) → bytes_eq other name ≡ b → cond b (declares_type u) (names_a_type scope name) ≡ true → IsType ((other, u) ∷ scope) name
+    by_test true declares.Type later same h = subst (λ (n : Name). IsType ((other, declares.Type) ∷ scope) n) (same_name other name same) declared
+    by_test true declares.Ordinary later same h = absurd cc
     by_test false u later apart h = before (λ e. let same = name_self other name e in cc) (later h)
 
 pub type_missed : (scope : Scope) (name : Name) → (IsType scope name → ⊥) → names_a_type scope name ≡ false

@@ -5,9 +5,11 @@ use Rattle.std.proofs.lemmas.Option.{slice_get_past}
 use Rattle.c_tokens.specs.declared.token.Token.{Token}
 use Rattle.c_tokens.specs.declared.kind.Kind.TheVariants as k
 use Rattle.c_tokens.specs.declared.kind.Mark.TheVariants as mark
+use Rattle.c_grammar.specs.declared.words.Naming.TheVariants as naming
 use Rattle.c_grammar.specs.declared.phrases.Specs.{Specs}
 use Rattle.c_grammar.specs.declared.phrases.Declarator.{Declarator}
-use Rattle.c_grammar.specs.declared.phrases.TypeName.{TypeName}
+use Rattle.c_grammar.specs.declared.phrases.TypePhrase.{TypePhrase}
+use Rattle.c_grammar.specs.declared.units.TypeName.{TypeName}
 use Rattle.c_grammar.specs.declared.statements.Block.{Block}
 use Rattle.c_grammar.specs.declared.statements.InitDeclarator.{InitDeclarator}
 use Rattle.c_grammar.specs.declared.statements.Declaration.{Declaration}
@@ -15,24 +17,27 @@ use Rattle.c_grammar.specs.declared.units.Function.{Function}
 use Rattle.c_grammar.specs.declared.units.External.{External}
 use Rattle.c_grammar.specs.declared.units.External.TheVariants as x
 use Rattle.c_grammar.specs.declared.units.Unit.{Unit as Whole}
-use Rattle.c_grammar.specs.Tokens.{Name, kind_at, kind_of, place_at, IsMark}
+use Rattle.c_tokens.specs.Names.{Name}
+use Rattle.c_grammar.specs.Tokens.{kind_at, kind_of, place_at, IsMark}
 use Rattle.c_grammar.specs.Words.{Role}
-use Rattle.c_grammar.specs.Scope.{Scope, use_of, types, start, with_parameters}
+use Rattle.c_grammar.specs.Scope.{Scope, declared_kind, types, start, with_parameters}
 use Rattle.c_grammar.specs.Phrases.{IsTypeName, type_name}
 use Rattle.c_grammar.specs.Initialisers.{IsDeclaration, of_no_name, of_names}
 use Rattle.c_grammar.specs.Units as g
-use Rattle.c_grammar.specs.Units.{max_depth, IsFunction, AreExternals, Derives, DerivesTypeName}
-use Rattle.grammar_descent.specs.Reading.{State, not_named, Readers}
+use Rattle.c_grammar.specs.Limits.{max_depth}
+use Rattle.c_grammar.specs.Units.{IsFunction, AreExternals, Derives, DerivesTypeName}
+use Rattle.grammar_descent.specs.Reading.{State, Readers}
 use Rattle.grammar_descent.specs.Follow.{ends_specs, ends_declarator}
-use Rattle.grammar_descent.specs.Exact.{Exact, for_none}
-use Rattle.grammar_descent.specs.InitialiserSteps.{Declared, declare, declarator}
+use Rattle.grammar_descent.specs.Exact.{Exact}
+use Rattle.grammar_descent.specs.InitialiserSteps.{NamedDeclarator, declare, named_declarator}
 use Rattle.grammar_descent.specs.StatementSteps.{block}
 use Rattle.grammar_descent.specs.UnitSteps as step
 use Rattle.grammar_descent.specs.UnitSteps.{in_function}
+use Rattle.grammar_descent.proofs.States.{as_found}
 use Rattle.grammar_descent.proofs.Seen.{here, not_here}
 use Rattle.grammar_descent.proofs.Moves.{specs_move, declarator_moves}
 use Rattle.grammar_descent.proofs.Starts.{declarator_begins, specs_end, specs_end-by, no_semicolon}
-use Rattle.grammar_descent.proofs.InitialiserComplete.{state, declaration_moves, AreRead, names_begin, finds_specs, finds_declarator, finds_init_declarators}
+use Rattle.grammar_descent.proofs.InitialiserComplete.{state, declaration_moves, AreRead, with_name_found, names_begin, finds_specs, finds_declarator, finds_init_declarators}
 use Rattle.grammar_descent.proofs.StatementComplete.{block_moves, block_opens, finds_block}
 
 module _ {text : List ℕ} {ts : List Token} where
@@ -58,19 +63,19 @@ module _ (text : List ℕ) (ts : List Token) (phrases : ℕ → Readers) where
 
   external-names : (height from at : ℕ) (scope between : Scope) (specs : Specs) (roles : List Role) (all : List InitDeclarator) (t : State) →
       (phrases max_depth).specs (state from scope) ≡ Some ((specs, roles, height), state at between) → kind_at ts at ≢ Some (k.Mark mark.Semicolon) →
-      AreRead ts phrases max_depth (use_of roles) (state at between) all t →
+      AreRead ts phrases max_depth (declared_kind roles) (state at between) all t →
       step.external text ts phrases (state from scope)
       ≡ Some (x.Declaration (record { place = place_at ts from; specs = specs; declarators = all }), t)
-  unfolding step.external step.declared Rattle.grammar_descent.specs.InitialiserSteps.with_names
+  unfolding step.external step.external_after Rattle.grammar_descent.specs.InitialiserSteps.declaration_of_names
   external-names height from at scope between specs roles all t found other r = rw (found, not_here ts at _ other, r.is, not_here ts r.first.1.at _ r.no_body, r.rest) refl
 
-  external-function : (height from at : ℕ) (scope between : Scope) (specs : Specs) (roles : List Role) (f : Declared × State) (body : Block) (t : State) →
+  external-function : (height from at : ℕ) (scope between : Scope) (specs : Specs) (roles : List Role) (f : NamedDeclarator × State) (body : Block) (t : State) →
       (phrases max_depth).specs (state from scope) ≡ Some ((specs, roles, height), state at between) → kind_at ts at ≢ Some (k.Mark mark.Semicolon) →
-      declarator ts phrases max_depth (state at between) ≡ Some f → IsMark ts f.1.at mark.LeftBrace →
-      block text ts phrases max_depth (in_function f (use_of roles)) ≡ Some (body, t) →
+      named_declarator ts phrases max_depth (state at between) ≡ Some f → IsMark ts f.1.at mark.LeftBrace →
+      block text ts phrases max_depth (in_function f (declared_kind roles)) ≡ Some (body, t) →
       step.external text ts phrases (state from scope)
-      ≡ Some (x.Function (record { place = place_at ts from; specs = specs; declarator = f.0.0; body = body }), state t.at ((f.0.1, use_of roles) ∷ f.1.scope))
-  unfolding step.external step.declared step.with_body
+      ≡ Some (x.Function (record { place = place_at ts from; specs = specs; declarator = f.0.node; body = body }), state t.at ((f.0.name, declared_kind roles) ∷ f.1.scope))
+  unfolding step.external step.external_after step.function_with_body
   external-function height from at scope between specs roles f body t found other named opens inside = rw (found, not_here ts at _ other, named, here ts f.1.at _ opens, inside) refl
 
   externals_end : (n : ℕ) (found : List External) (at : ℕ) (scope : Scope) → at ≡ length ts →
@@ -101,8 +106,8 @@ module _ (text : List ℕ) (ts : List Token) (phrases : ℕ → Readers) (exact 
   finds_function (g.function {from} {at} {middle} {to} {scope} {between} {after} {roles} {name} {own} {specs} {declarator = named} {body} is is_named inside) =
       let (height, f) = finds_specs text ts phrases exact is max_depth (omega arith) (specs_end is_named) in
       let opens = block_opens inside in
-      external-function text ts phrases height from at scope between specs roles ((named, name, own), state middle after) body
-      (state to (with_parameters own ((name, use_of roles) ∷ after))) f (no_semicolon is_named)
+      external-function text ts phrases height from at scope between specs roles (with_name_found named name own, state middle after) body
+      (state to (with_parameters own ((name, declared_kind roles) ∷ after))) f (no_semicolon is_named)
       (finds_declarator text ts phrases exact is_named max_depth (omega arith) (rw opens refl)) opens
       (finds_block text ts phrases exact inside max_depth (omega arith))
 
@@ -124,34 +129,34 @@ module _ (text : List ℕ) (ts : List Token) (phrases : ℕ → Readers) (exact 
   -- A unit that the tokens derive is the one that is read.
   pub finds_unit : (unit : Whole) → Derives text ts unit → step.unit text ts phrases ≡ Some unit.items
   unfolding step.unit
-  finds_unit unit is = let room = externals_move is in finds_externals is (length ts + 1) [] (omega arith) refl
+  finds_unit unit is = let room = externals_move is.items in finds_externals is.items (length ts + 1) [] (omega arith) refl
 
   -- ---- names of types
 
   type_name_is : (depth high height from at : ℕ) (scope between : Scope) (specs : Specs) (roles : List Role) (found : Declarator) (name : Option Name) (own : Option Scope) (t : State) →
       (phrases depth).specs (state from scope) ≡ Some ((specs, roles, high), state at between) →
-      (phrases depth).declarator not_named (state at between) ≡ Some ((found, name, own, height), t) →
-      step.name_of_type text ts phrases depth (state from scope) ≡ Some (record { place = place_at ts from; specs = specs; declarator = found }, t)
-  unfolding step.name_of_type
+      (phrases depth).declarator naming.NotNamed (state at between) ≡ Some (as_found found name own height, t) →
+      step.type_phrase_alone text ts phrases depth (state from scope) ≡ Some (record { place = place_at ts from; specs = specs; declarator = found }, t)
+  unfolding step.type_phrase_alone
   type_name_is depth high height from at scope between specs roles found name own t first second = rw (first, second) refl
 
-  pub finds_type_name : {d from to : ℕ} {scope after : Scope} {type : TypeName} → IsTypeName text ts d scope after from to type → (depth : ℕ) → d ≤ depth →
+  pub finds_type_name : {d from to : ℕ} {scope after : Scope} {type : TypePhrase} → IsTypeName text ts d scope after from to type → (depth : ℕ) → d ≤ depth →
       ends_specs (kind_at ts to) ≡ true → ends_declarator (kind_at ts to) ≡ true →
-      step.name_of_type text ts phrases depth (state from scope) ≡ Some (type, state to after)
+      step.type_phrase_alone text ts phrases depth (state from scope) ≡ Some (type, state to after)
   finds_type_name (type_name {depth = d} {from} {at} {to} {scope} {between} {after} {roles} {specs} {declarator = found} {own} is unnamed) depth low ended closed =
-      let behind : ends_specs (kind_at ts at) ≡ true = elim (declarator_begins unnamed) [ inl same ↦ rw same ended | inr some ↦ specs_end-by _ some ] in
-      let (high, f) = finds_specs text ts phrases exact is depth low behind in
-      let r = (exact depth).declarator_complete not_named _ d (state at between) (state to after) found None own for_none low unnamed closed in
+      let after_specs : ends_specs (kind_at ts at) ≡ true = elim (declarator_begins unnamed) [ inl same ↦ rw same ended | inr some ↦ specs_end-by _ some ] in
+      let (high, f) = finds_specs text ts phrases exact is depth low after_specs in
+      let r = (exact depth).declarator_complete naming.NotNamed d (state at between) (state to after) found None own low unnamed closed in
       type_name_is depth high r.height from at scope between specs roles found None own (state to after) f r.is
 
-  lone_type_is : (typedefs : List Name) (type : TypeName) (after : Scope) →
-      step.name_of_type text ts phrases max_depth (state 0 (types typedefs ++ start)) ≡ Some (type, state (length ts) after) →
+  lone_type_is : (typedefs : List Name) (type : TypePhrase) (after : Scope) →
+      step.type_phrase_alone text ts phrases max_depth (state 0 (types typedefs ++ start)) ≡ Some (type, state (length ts) after) →
       step.lone_type text ts phrases typedefs ≡ Some type
   unfolding step.lone_type
   lone_type_is typedefs type after found = rw (found, eq-eqb (length ts) (length ts) refl) refl
 
   -- A name of a type that the tokens derive is the one that is read.
-  pub finds_lone_type : (typedefs : List Name) (type : TypeName) → DerivesTypeName text ts typedefs type → step.lone_type text ts phrases typedefs ≡ Some type
+  pub finds_lone_type : (typedefs : List Name) (type : TypeName) → DerivesTypeName text ts typedefs type → step.lone_type text ts phrases typedefs ≡ Some type.phrase
   finds_lone_type typedefs type d =
       let none = past_all ts in
-      lone_type_is typedefs type d.after (finds_type_name d.is max_depth (omega arith) (rw none refl) (rw none refl))
+      lone_type_is typedefs type.phrase d.after (finds_type_name d.phrase max_depth (omega arith) (rw none refl) (rw none refl))

@@ -1,40 +1,28 @@
 -- Readers find what is derived, and nothing else.
-use Rattle.std.specs.Prelude.{◌≡◌, ℕ, ◌≤◌, true, List, ◌++◌, Option, Some, None}
+use Rattle.std.specs.Prelude.{◌≡◌, ℕ, ◌≤◌, true, List, ◌++◌, Option, Some}
 use Rattle.c_tokens.specs.declared.token.Token.{Token}
 use Rattle.c_grammar.specs.declared.phrases.Expression.{Expression}
 use Rattle.c_grammar.specs.declared.phrases.Specs.{Specs}
 use Rattle.c_grammar.specs.declared.phrases.Declarator.{Declarator}
-use Rattle.c_grammar.specs.Tokens.{Name, kind_at}
+use Rattle.c_tokens.specs.Names.{Name}
+use Rattle.c_grammar.specs.declared.words.Naming.{Naming}
+use Rattle.c_grammar.specs.Tokens.{kind_at}
 use Rattle.c_grammar.specs.Words.{Role}
 use Rattle.c_grammar.specs.Scope.{Scope}
-use Rattle.c_grammar.specs.Phrases.{IsExpression, IsSpecs, IsDeclarator, Form, declares, parameter, unnamed, loose}
-use Rattle.grammar_descent.specs.Reading.{State, Reading, Naming, named, named_or_not, not_named, FoundDeclarator, Readers}
+use Rattle.c_grammar.specs.Phrases.{IsExpression, IsSpecs, IsDeclarator, whole}
+use Rattle.grammar_descent.specs.Reading.{State, Reading, FoundDeclarator, Readers}
 use Rattle.grammar_descent.specs.Follow.{ends, ends_specs, ends_declarator}
 
--- what is in scope behind a phrase: what was before, and what the phrase declares
+-- what is in scope after a phrase: what was before, and what the phrase declares
 pub record Grows (before after : Scope) : Type 0 where
   pub new : Scope
   pub is : after ≡ new ++ before
 
 -- some height no greater than the depth, with which it is found
-pub record IsFound {A : Type 0} (answer : Option (A × State)) (depth : ℕ) (with_height : ℕ → A) (behind : State) : Type 0 where
+pub record IsFound {A : Type 0} (answer : Option (A × State)) (depth : ℕ) (with_height : ℕ → A) (after : State) : Type 0 where
   pub height : ℕ
   pub low : height ≤ depth
-  pub is : answer ≡ Some (with_height height, behind)
-
--- which form a declarator has that was read so and has this name, if any
-abbrev pub form_of : Naming → Option Name → Form
-form_of named name = declares
-form_of named_or_not (Some name) = parameter
-form_of named_or_not None = unnamed
-form_of not_named name = unnamed
-
--- a form that is looked for so
-pub data Looks : Naming → Form → Type 0 where
-  for_one : Looks named declares
-  for_a_parameter : Looks named_or_not parameter
-  for_none_in_a_parameter : Looks named_or_not unnamed
-  for_none : Looks not_named unnamed
+  pub is : answer ≡ Some (with_height height, after)
 
 module _ (text : List ℕ) (ts : List Token) (depth : ℕ) where
   -- What is read is derived with every depth from its height on, and its height is no greater than the depth.
@@ -52,15 +40,12 @@ module _ (text : List ℕ) (ts : List Token) (depth : ℕ) where
         Grows s.scope t.scope
 
   pub record SoundDeclarator (read : Naming → Reading FoundDeclarator) : Type 0 where
-    pub low : (how : Naming) (s t : State) (found : Declarator) (name : Option Name) (own : Option Scope) (height : ℕ) →
-        read how s ≡ Some ((found, name, own, height), t) → height ≤ depth
-    pub derived : (how : Naming) (d : ℕ) (s t : State) (found : Declarator) (name : Option Name) (own : Option Scope) (height : ℕ) →
-        read how s ≡ Some ((found, name, own, height), t) → height ≤ d →
-        IsDeclarator text ts (form_of how name) loose d s.scope t.scope s.at t.at name own found
-    pub grows : (how : Naming) (s t : State) (found : Declarator) (name : Option Name) (own : Option Scope) (height : ℕ) →
-        read how s ≡ Some ((found, name, own, height), t) → Grows s.scope t.scope
+    pub low : (how : Naming) (s t : State) (found : FoundDeclarator) → read how s ≡ Some (found, t) → found.height ≤ depth
+    pub derived : (how : Naming) (d : ℕ) (s t : State) (found : FoundDeclarator) → read how s ≡ Some (found, t) → found.height ≤ d →
+        IsDeclarator text ts how whole d s.scope t.scope s.at t.at found.name found.own found.node
+    pub grows : (how : Naming) (s t : State) (found : FoundDeclarator) → read how s ≡ Some (found, t) → Grows s.scope t.scope
 
-  -- What is derived with this depth or a smaller one is read, where no token behind it could be a part of it.
+  -- What is derived with this depth or a smaller one is read, where no token after it could be a part of it.
   abbrev pub CompleteExpression : (ℕ → Reading (Expression × ℕ)) → Type 0
   CompleteExpression read =
       (level d : ℕ) (s t : State) (e : Expression) → d ≤ depth → IsExpression text ts d level s.scope t.scope s.at t.at e →
@@ -73,9 +58,9 @@ module _ (text : List ℕ) (ts : List Token) (depth : ℕ) where
 
   abbrev pub CompleteDeclarator : (Naming → Reading FoundDeclarator) → Type 0
   CompleteDeclarator read =
-      (how : Naming) (form : Form) (d : ℕ) (s t : State) (found : Declarator) (name : Option Name) (own : Option Scope) → Looks how form →
-      d ≤ depth → IsDeclarator text ts form loose d s.scope t.scope s.at t.at name own found →
-      ends_declarator (kind_at ts t.at) ≡ true → IsFound (read how s) d (λ height. (found, name, own, height)) t
+      (how : Naming) (d : ℕ) (s t : State) (found : Declarator) (name : Option Name) (own : Option Scope) →
+      d ≤ depth → IsDeclarator text ts how whole d s.scope t.scope s.at t.at name own found →
+      ends_declarator (kind_at ts t.at) ≡ true → IsFound (read how s) d (λ height. record { node = found; name = name; own = own; height = height }) t
 
   -- Readers for this depth.
   pub record Exact (readers : Readers) : Type 0 where

@@ -1,4 +1,4 @@
--- Where a phrase ends: what cannot stand behind it as a part of it.
+-- Where a phrase ends: what cannot stand after it as a part of it.
 use Rattle.std.specs.Prelude.{ℕ, Bool, true, false, Option, Some, None, nat_lt, not, if◌then◌else◌}
 use Rattle.c_tokens.specs.declared.kind.Keyword.{Keyword}
 use Rattle.c_tokens.specs.declared.kind.Keyword.TheVariants as word
@@ -6,52 +6,53 @@ use Rattle.c_tokens.specs.declared.kind.Mark.{Mark}
 use Rattle.c_tokens.specs.declared.kind.Mark.TheVariants as mark
 use Rattle.c_tokens.specs.declared.kind.Kind.{Kind}
 use Rattle.c_tokens.specs.declared.kind.Kind.TheVariants as k
-use Rattle.c_grammar.specs.Operators.{any, assigned, conditional, behind}
+use Rattle.c_grammar.specs.declared.words.Level.TheVariants as of
+use Rattle.c_grammar.specs.Operators.{tightness}
 
--- the level of the expression that goes on with the mark, if one does
-abbrev pub mark_tie : Mark → Option ℕ
-mark_tie mark.Comma = Some any
-mark_tie mark.Equal = Some assigned
-mark_tie mark.StarEqual = Some assigned
-mark_tie mark.SlashEqual = Some assigned
-mark_tie mark.PercentEqual = Some assigned
-mark_tie mark.PlusEqual = Some assigned
-mark_tie mark.MinusEqual = Some assigned
-mark_tie mark.ShiftLeftEqual = Some assigned
-mark_tie mark.ShiftRightEqual = Some assigned
-mark_tie mark.AndEqual = Some assigned
-mark_tie mark.CaretEqual = Some assigned
-mark_tie mark.OrEqual = Some assigned
-mark_tie mark.Question = Some conditional
-mark_tie mark.OrOr = Some 3
-mark_tie mark.AndAnd = Some 4
-mark_tie mark.Or = Some 5
-mark_tie mark.Caret = Some 6
-mark_tie mark.And = Some 7
-mark_tie mark.EqualEqual = Some 8
-mark_tie mark.NotEqual = Some 8
-mark_tie mark.Less = Some 9
-mark_tie mark.Greater = Some 9
-mark_tie mark.LessEqual = Some 9
-mark_tie mark.GreaterEqual = Some 9
-mark_tie mark.ShiftLeft = Some 10
-mark_tie mark.ShiftRight = Some 10
-mark_tie mark.Plus = Some 11
-mark_tie mark.Minus = Some 11
-mark_tie mark.Star = Some 12
-mark_tie mark.Slash = Some 12
-mark_tie mark.Percent = Some 12
-mark_tie mark.LeftBracket = Some behind
-mark_tie mark.LeftParen = Some behind
-mark_tie mark.Dot = Some behind
-mark_tie mark.Arrow = Some behind
-mark_tie mark.PlusPlus = Some behind
-mark_tie mark.MinusMinus = Some behind
-mark_tie _ = None
+-- how tightly the expression binds that goes on with the mark, if one does
+abbrev pub mark_level : Mark → Option ℕ
+mark_level mark.Comma = Some (tightness of.Comma)
+mark_level mark.Equal = Some (tightness of.Assignment)
+mark_level mark.StarEqual = Some (tightness of.Assignment)
+mark_level mark.SlashEqual = Some (tightness of.Assignment)
+mark_level mark.PercentEqual = Some (tightness of.Assignment)
+mark_level mark.PlusEqual = Some (tightness of.Assignment)
+mark_level mark.MinusEqual = Some (tightness of.Assignment)
+mark_level mark.ShiftLeftEqual = Some (tightness of.Assignment)
+mark_level mark.ShiftRightEqual = Some (tightness of.Assignment)
+mark_level mark.AndEqual = Some (tightness of.Assignment)
+mark_level mark.CaretEqual = Some (tightness of.Assignment)
+mark_level mark.OrEqual = Some (tightness of.Assignment)
+mark_level mark.Question = Some (tightness of.Conditional)
+mark_level mark.OrOr = Some (tightness of.LogicalOr)
+mark_level mark.AndAnd = Some (tightness of.LogicalAnd)
+mark_level mark.Or = Some (tightness of.Or)
+mark_level mark.Caret = Some (tightness of.ExclusiveOr)
+mark_level mark.And = Some (tightness of.And)
+mark_level mark.EqualEqual = Some (tightness of.Equality)
+mark_level mark.NotEqual = Some (tightness of.Equality)
+mark_level mark.Less = Some (tightness of.Relational)
+mark_level mark.Greater = Some (tightness of.Relational)
+mark_level mark.LessEqual = Some (tightness of.Relational)
+mark_level mark.GreaterEqual = Some (tightness of.Relational)
+mark_level mark.ShiftLeft = Some (tightness of.Shift)
+mark_level mark.ShiftRight = Some (tightness of.Shift)
+mark_level mark.Plus = Some (tightness of.Additive)
+mark_level mark.Minus = Some (tightness of.Additive)
+mark_level mark.Star = Some (tightness of.Multiplicative)
+mark_level mark.Slash = Some (tightness of.Multiplicative)
+mark_level mark.Percent = Some (tightness of.Multiplicative)
+mark_level mark.LeftBracket = Some (tightness of.Postfix)
+mark_level mark.LeftParen = Some (tightness of.Postfix)
+mark_level mark.Dot = Some (tightness of.Postfix)
+mark_level mark.Arrow = Some (tightness of.Postfix)
+mark_level mark.PlusPlus = Some (tightness of.Postfix)
+mark_level mark.MinusMinus = Some (tightness of.Postfix)
+mark_level _ = None
 
-abbrev pub tie : Option Kind → Option ℕ
-tie (Some (k.Mark m)) = mark_tie m
-tie _ = None
+abbrev pub kind_level : Option Kind → Option ℕ
+kind_level (Some (k.Mark m)) = mark_level m
+kind_level _ = None
 
 -- string literals in a row are one node, so a string does not end one
 abbrev pub is_string : Option Kind → Bool
@@ -64,7 +65,7 @@ is_below None level = true
 
 -- An expression of this level ends before such a token.
 abbrev pub ends : ℕ → Option Kind → Bool
-ends level kind = if is_string kind then false else is_below (tie kind) level
+ends level kind = if is_string kind then false else is_below (kind_level kind) level
 
 -- the words that begin a declaration specifier (C11 6.7.1 to 6.7.4)
 abbrev pub is_specifier_word : Keyword → Bool
@@ -88,13 +89,13 @@ is_specifier_word word.Union = true
 is_specifier_word word.Enum = true
 is_specifier_word _ = false
 
--- Specifiers that hold a type end before such a token. Behind a tag a `{` begins a list.
+-- Specifiers that hold a type end before such a token. After a tag a `{` begins a list.
 abbrev pub ends_specs : Option Kind → Bool
 ends_specs (Some (k.Word w)) = not (is_specifier_word w)
 ends_specs (Some (k.Mark mark.LeftBrace)) = false
 ends_specs _ = true
 
--- A declarator ends before such a token. Behind a `*` stand qualifiers.
+-- A declarator ends before such a token. After a `*` stand qualifiers.
 abbrev pub ends_declarator : Option Kind → Bool
 ends_declarator (Some k.Name) = false
 ends_declarator (Some (k.Word word.Const)) = false

@@ -1,5 +1,5 @@
 -- Reading the tokens of a text from one place on, by functions on lists.
-use Rattle.std.specs.Prelude.{ℕ, ◌+◌, Bool, true, false, List, Option, Some, None, if◌then◌else◌}
+use Rattle.std.specs.Prelude.{ℕ, ◌+◌, Bool, false, List, Option, Some, None, if◌then◌else◌}
 use Rattle.c_tokens.specs.declared.kind.Keyword.{Keyword}
 use Rattle.c_tokens.specs.declared.kind.Mark.{Mark}
 use Rattle.c_tokens.specs.declared.kind.Kind.{Kind}
@@ -9,7 +9,9 @@ use Rattle.c_tokens.specs.Same.{same_kind}
 use Rattle.c_grammar.specs.declared.phrases.Expression.{Expression}
 use Rattle.c_grammar.specs.declared.phrases.Specs.{Specs}
 use Rattle.c_grammar.specs.declared.phrases.Declarator.{Declarator}
-use Rattle.c_grammar.specs.Tokens.{Name, kind_at}
+use Rattle.c_tokens.specs.Names.{Name}
+use Rattle.c_grammar.specs.declared.words.Naming.{Naming}
+use Rattle.c_grammar.specs.Tokens.{kind_at}
 use Rattle.c_grammar.specs.Words.{Role}
 use Rattle.c_grammar.specs.Scope.{Scope}
 
@@ -18,7 +20,7 @@ pub record State : Type 0 where
   pub at : ℕ
   pub scope : Scope
 
--- What is read from a state on, and the state behind it; nothing where it does not stand there.
+-- What is read from a state on, and the state after it; nothing where it does not stand there.
 abbrev pub Reading : Type 0 → Type 0
 Reading A = State → Option (A × State)
 
@@ -49,18 +51,15 @@ word_at ts at word = sees ts at (k.Word word)
 abbrev pub past : State → ℕ → State
 past s n = record { at = s.at + n; scope = s.scope }
 
--- Whether a declarator has to have a name, may have one, as a parameter's, or has none, as in the name of a type.
-pub data Naming : Type 0 where
-  named : Naming
-  named_or_not : Naming
-  not_named : Naming
-
--- A declarator, what it declares, what the first list of parameters behind the name declares, and its height.
-abbrev pub FoundDeclarator : Type 0
-FoundDeclarator = Declarator × Option Name × Option Scope × ℕ
+-- a declarator, what it declares, what the first list of parameters after the name declares, and its height
+pub record FoundDeclarator : Type 0 where
+  pub node : Declarator
+  pub name : Option Name
+  pub own : Option Scope
+  pub height : ℕ
 
 -- The readers of phrases that are nested no deeper than some depth. Each phrase comes with its height, the least depth that it
--- needs; an expression is read from the level on.
+-- needs; an expression is read that binds at least so tightly.
 pub record Readers : Type 0 where
   pub expression : ℕ → Reading (Expression × ℕ)
   pub specs : Reading (Specs × List Role × ℕ)

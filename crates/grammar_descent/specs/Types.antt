@@ -4,13 +4,17 @@ use Rattle.std.specs.Str.{bytes_eq}
 use Rattle.c_tokens.specs.declared.kind.Kind.{Kind}
 use Rattle.c_tokens.specs.declared.kind.Kind.TheVariants as k
 use Rattle.c_tokens.specs.declared.token.Token.{Token}
-use Rattle.c_grammar.specs.Tokens.{Name, kind_at, name_at}
-use Rattle.c_grammar.specs.Scope.{Scope, Use, a_type, no_type}
+use Rattle.c_tokens.specs.Names.{Name}
+use Rattle.token_texts.specs.Names.{name_at}
+use Rattle.c_grammar.specs.declared.words.NameKind.{NameKind}
+use Rattle.c_grammar.specs.declared.words.NameKind.TheVariants as declares
+use Rattle.c_grammar.specs.Tokens.{kind_at}
+use Rattle.c_grammar.specs.Scope.{Scope}
 use Rattle.grammar_descent.specs.Follow.{is_specifier_word}
 
-abbrev pub declares_type : Use → Bool
-declares_type a_type = true
-declares_type no_type = false
+abbrev pub declares_type : NameKind → Bool
+declares_type declares.Type = true
+declares_type declares.Ordinary = false
 
 -- whether the last declaration of the name declares a type
 unfoldable pub names_a_type : Scope → Name → Bool

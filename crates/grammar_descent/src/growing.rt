@@ -1,8 +1,8 @@
-//! What may stand behind an expression as a part of a larger one.
+//! What may stand after an expression as a part of a larger one.
 
 use c_grammar::{Assignment, Binary, Postfix, Selection};
 
-/// How an expression becomes the first part of a larger one (C11 6.5.2 and 6.5.5 to 6.5.17), by the mark that stands behind it.
+/// How an expression becomes the first part of a larger one (C11 6.5.2 and 6.5.5 to 6.5.17), by the mark that stands after it.
 #[derive(Clone, Copy, Debug, PartialEq, Eq)]
 pub enum Growth {
     /// `[`
@@ -16,7 +16,7 @@ pub enum Growth {
     /// An operator between two operands.
     Binary(Binary),
     /// `?`
-    Choice,
+    Conditional,
     /// `=`, or an operator with it.
     Assign(Assignment),
     /// `,`

@@ -1,2 +1,2 @@
 pub mod NameLemmas
-pub mod MapLemmas
+pub mod TableLemmas

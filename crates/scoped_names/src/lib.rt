@@ -2,5 +2,6 @@
 #![tactic(auto)]
 
 mod names;
+mod places;
 
 pub use names::Names;

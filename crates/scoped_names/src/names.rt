@@ -1,37 +1,37 @@
 //! Names, and the last place of each.
 
-ghost use Rattle.std.specs.Prelude.{◌≡◌, ◌<◌, ◌-◌, [], ◌∷◌, ◌++◌, length, take, slice_get, OnOk, OnErr};
+ghost use Rattle.std.specs.Prelude.{◌≡◌, ◌<◌, ◌-◌, [], ◌∷◌, ◌++◌, Some, length, take, slice_get, OnOk, OnErr};
 ghost use Rattle.scoped_names.specs.Names.{last_place};
 
+use crate::places::{make_room, place_in, set_place};
 use std::alloc::{AllocError, Global};
-use std::collections::BTreeMap;
 use std::marker::Model;
 
 /// A declared name, with the place of the one that it hides.
-#[derive(Drop)]
+#[derive(Clone, Copy)]
 struct Declared {
-    name: Vec<u8>,
+    name: u32,
     hides: Option<usize>,
 }
 
-/// Names that were declared one after another: contracts see their list. A look-up, a declaration and taking the
-/// last name back take logarithmic time each.
+/// Names, each of them a number, that were declared one after another: contracts see their list. The table of places is as long
+/// as the largest name asks. A look-up, a declaration and taking the last name back take constant time each.
 #[derive(Drop)]
 pub struct Names {
-    places: BTreeMap<Vec<u8>, usize>,
+    places: Vec<Option<usize>>,
     declared: Vec<Declared>,
 }
 
 impl Model for Names {
     ghost use Rattle.std.specs.Prelude.{List, ℕ};
 
-    ghost Value = { List (List ℕ) };
+    ghost Value = { List ℕ };
 
     ghost use Rattle.scoped_names.specs.Scoping.{names_of, IsKept};
 
     ghost view = { λ s. names_of s.declared.items };
 
-    ghost invariant = { λ s. IsKept s.places s.declared.items };
+    ghost invariant = { λ s. IsKept s.places.items s.declared.items };
 }
 
 impl Names {
@@ -39,7 +39,7 @@ impl Names {
         ensures { result ≡ [] }
     {
         Names {
-            places: BTreeMap::new(alloc),
+            places: Vec::new(alloc),
             declared: Vec::new(alloc),
         }
     }
@@ -52,33 +52,31 @@ impl Names {
     }
 
     /// The last place at which the name stands.
-    pub fn find(&self, name: &[u8]) -> Option<usize>
-        ensures { result ≡ last_place self.now name.now }
+    pub fn find(&self, name: u32) -> Option<usize>
+        ensures { result ≡ last_place self.now name }
     {
-        self.places.get(name).copied()
+        place_in(self.places.as_slice(), name)
     }
 
     /// The name that was declared there.
-    pub fn name(&self, place: usize) -> &[u8]
+    pub fn name(&self, place: usize) -> u32
         requires { place < length self.now }
-        ensures { slice_get self.now place ≡ Some result.now }
+        ensures { slice_get self.now place ≡ Some result }
     {
-        self.declared[place].name.as_slice()
+        self.declared[place].name
     }
 
-    /// Declares a name behind all others.
-    pub fn declare(&mut self, alloc: Global, name: &[u8]) -> Result<(), AllocError>
-        ensures ok { OnOk result (self.new ≡ self.old ++ name.now ∷ []) }
+    /// Declares a name after all others.
+    pub fn declare(&mut self, name: u32) -> Result<(), AllocError>
+        ensures ok { OnOk result (self.new ≡ self.old ++ name ∷ []) }
         ensures err { OnErr result (self.new ≡ self.old) }
     {
         let place = self.declared.len();
-        let declared = Declared {
-            name: Vec::from_slice(alloc, name)?,
-            hides: self.places.get(name).copied(),
-        };
+        let hides = place_in(self.places.as_slice(), name);
         self.declared.reserve(1)?;
-        self.places.insert(Vec::from_slice(alloc, name)?, place)?;
-        let stored: Result<_, _> = self.declared.push(declared);
+        make_room(&mut self.places, name)?;
+        set_place(&mut self.places, name, Some(place));
+        let stored: Result<_, _> = self.declared.push(Declared { name, hides });
         stored.unwrap();
         Ok(())
     }
@@ -91,15 +89,7 @@ impl Names {
         let Some(Declared { name, hides }) = self.declared.pop() else {
             return;
         };
-        match hides {
-            Some(place) => {
-                let stored: Result<_, _> = self.places.insert(name, place);
-                stored.unwrap();
-            }
-            None => {
-                self.places.remove(name.as_slice());
-            }
-        }
+        set_place(&mut self.places, name, hides);
     }
 
     /// Takes all names back but the first `start`.

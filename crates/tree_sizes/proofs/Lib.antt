@@ -3,5 +3,9 @@ mod StatementEquations
 mod OneType
 pub mod PhraseSizes
 pub mod UnitSizes
+mod PhraseDepthEquations
+mod StatementDepthEquations
+mod PhraseDepths
+pub mod UnitDepths
 mod Cases
 mod Reached

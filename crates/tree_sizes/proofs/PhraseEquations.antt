@@ -21,40 +21,39 @@ use Rattle.c_grammar.specs.declared.phrases.Enumerator.{Enumerator, fold_out-Enu
 use Rattle.c_grammar.specs.declared.phrases.Member.{Member, fold_out-Member}
 use Rattle.c_grammar.specs.declared.phrases.Parameter.{Parameter, fold_out-Parameter}
 use Rattle.c_grammar.specs.declared.phrases.Specs.{Specs, fold_out-Specs}
-use Rattle.c_grammar.specs.declared.phrases.TypeName.{TypeName, fold_out-TypeName}
-use Rattle.c_grammar.specs.Tokens.{Name}
-use Rattle.tree_sizes.specs.Sizes.{total, nodes_of_declarator, nodes_of_expression, nodes_of_specifier, nodes_of_enumerator, nodes_of_member, nodes_of_parameter, nodes_of_specs, nodes_of_type_name, declarator_step, expression_step, specifier_step, enumerator_step, member_step, parameter_step, specs_step, type_name_step}
+use Rattle.c_grammar.specs.declared.phrases.TypePhrase.{TypePhrase, fold_out-TypePhrase}
+use Rattle.tree_sizes.specs.Sizes.{total, nodes_of_declarator, nodes_of_expression, nodes_of_specifier, nodes_of_enumerator, nodes_of_member, nodes_of_parameter, nodes_of_specs, nodes_of_type_phrase, declarator_step, expression_step, specifier_step, enumerator_step, member_step, parameter_step, specs_step, type_phrase_step}
 
 -- ---- any layer
 
-declarator : (x : Declarator-F Declarator Expression Specifier Enumerator Member Parameter Specs TypeName) (one : Declarator) → roll-Declarator x ≡ one →
-    nodes_of_declarator one ≡ declarator_step (map-Declarator Declarator Expression Specifier Enumerator Member Parameter Specs TypeName ℕ ℕ ℕ ℕ ℕ ℕ ℕ ℕ
-    nodes_of_declarator nodes_of_expression nodes_of_specifier nodes_of_enumerator nodes_of_member nodes_of_parameter nodes_of_specs nodes_of_type_name x)
-unfolding nodes_of_declarator nodes_of_expression nodes_of_specifier nodes_of_enumerator nodes_of_member nodes_of_parameter nodes_of_specs nodes_of_type_name
+declarator : (x : Declarator-F Declarator Expression Specifier Enumerator Member Parameter Specs TypePhrase) (one : Declarator) → roll-Declarator x ≡ one →
+    nodes_of_declarator one ≡ declarator_step (map-Declarator Declarator Expression Specifier Enumerator Member Parameter Specs TypePhrase ℕ ℕ ℕ ℕ ℕ ℕ ℕ ℕ
+    nodes_of_declarator nodes_of_expression nodes_of_specifier nodes_of_enumerator nodes_of_member nodes_of_parameter nodes_of_specs nodes_of_type_phrase x)
+unfolding nodes_of_declarator nodes_of_expression nodes_of_specifier nodes_of_enumerator nodes_of_member nodes_of_parameter nodes_of_specs nodes_of_type_phrase
 declarator x one is =
     ap nodes_of_declarator (sym is) ∙ fold-roll-Declarator ℕ ℕ ℕ ℕ ℕ ℕ ℕ ℕ
-    declarator_step expression_step specifier_step enumerator_step member_step parameter_step specs_step type_name_step x
+    declarator_step expression_step specifier_step enumerator_step member_step parameter_step specs_step type_phrase_step x
 
-expression : (x : Expression-F Declarator Expression Specifier Enumerator Member Parameter Specs TypeName) (one : Expression) → roll-Expression x ≡ one →
-    nodes_of_expression one ≡ expression_step (map-Expression Declarator Expression Specifier Enumerator Member Parameter Specs TypeName ℕ ℕ ℕ ℕ ℕ ℕ ℕ ℕ
-    nodes_of_declarator nodes_of_expression nodes_of_specifier nodes_of_enumerator nodes_of_member nodes_of_parameter nodes_of_specs nodes_of_type_name x)
-unfolding nodes_of_declarator nodes_of_expression nodes_of_specifier nodes_of_enumerator nodes_of_member nodes_of_parameter nodes_of_specs nodes_of_type_name
+expression : (x : Expression-F Declarator Expression Specifier Enumerator Member Parameter Specs TypePhrase) (one : Expression) → roll-Expression x ≡ one →
+    nodes_of_expression one ≡ expression_step (map-Expression Declarator Expression Specifier Enumerator Member Parameter Specs TypePhrase ℕ ℕ ℕ ℕ ℕ ℕ ℕ ℕ
+    nodes_of_declarator nodes_of_expression nodes_of_specifier nodes_of_enumerator nodes_of_member nodes_of_parameter nodes_of_specs nodes_of_type_phrase x)
+unfolding nodes_of_declarator nodes_of_expression nodes_of_specifier nodes_of_enumerator nodes_of_member nodes_of_parameter nodes_of_specs nodes_of_type_phrase
 expression x one is =
     ap nodes_of_expression (sym is) ∙ fold-roll-Expression ℕ ℕ ℕ ℕ ℕ ℕ ℕ ℕ
-    declarator_step expression_step specifier_step enumerator_step member_step parameter_step specs_step type_name_step x
+    declarator_step expression_step specifier_step enumerator_step member_step parameter_step specs_step type_phrase_step x
 
-specifier : (x : Specifier-F Declarator Expression Specifier Enumerator Member Parameter Specs TypeName) (one : Specifier) → roll-Specifier x ≡ one →
-    nodes_of_specifier one ≡ specifier_step (map-Specifier Declarator Expression Specifier Enumerator Member Parameter Specs TypeName ℕ ℕ ℕ ℕ ℕ ℕ ℕ ℕ
-    nodes_of_declarator nodes_of_expression nodes_of_specifier nodes_of_enumerator nodes_of_member nodes_of_parameter nodes_of_specs nodes_of_type_name x)
-unfolding nodes_of_declarator nodes_of_expression nodes_of_specifier nodes_of_enumerator nodes_of_member nodes_of_parameter nodes_of_specs nodes_of_type_name
+specifier : (x : Specifier-F Declarator Expression Specifier Enumerator Member Parameter Specs TypePhrase) (one : Specifier) → roll-Specifier x ≡ one →
+    nodes_of_specifier one ≡ specifier_step (map-Specifier Declarator Expression Specifier Enumerator Member Parameter Specs TypePhrase ℕ ℕ ℕ ℕ ℕ ℕ ℕ ℕ
+    nodes_of_declarator nodes_of_expression nodes_of_specifier nodes_of_enumerator nodes_of_member nodes_of_parameter nodes_of_specs nodes_of_type_phrase x)
+unfolding nodes_of_declarator nodes_of_expression nodes_of_specifier nodes_of_enumerator nodes_of_member nodes_of_parameter nodes_of_specs nodes_of_type_phrase
 specifier x one is =
     ap nodes_of_specifier (sym is) ∙ fold-roll-Specifier ℕ ℕ ℕ ℕ ℕ ℕ ℕ ℕ
-    declarator_step expression_step specifier_step enumerator_step member_step parameter_step specs_step type_name_step x
+    declarator_step expression_step specifier_step enumerator_step member_step parameter_step specs_step type_phrase_step x
 
 -- ---- declarators
 
-pub declarator_name : (place : Place) (name : Name) → nodes_of_declarator (d.Name place name) ≡ 1
-declarator_name place name = declarator _ _ (d.rolls-Name place name)
+pub declarator_name : (place : Place) → nodes_of_declarator (d.Name place) ≡ 1
+declarator_name place = declarator _ _ (d.rolls-Name place)
 
 pub declarator_unnamed : nodes_of_declarator d.Unnamed ≡ 1
 declarator_unnamed = declarator _ _ d.rolls-Unnamed
@@ -79,8 +78,8 @@ declarator_function place inner all = declarator _ _ (d.rolls-Function place inn
 
 -- ---- expressions
 
-pub expression_name : (place : Place) (name : Name) → nodes_of_expression (e.Name place name) ≡ 1
-expression_name place name = expression _ _ (e.rolls-Name place name)
+pub expression_name : (place : Place) → nodes_of_expression (e.Name place) ≡ 1
+expression_name place = expression _ _ (e.rolls-Name place)
 
 pub expression_number : (place : Place) (value : ℕ) (type : NumType) → nodes_of_expression (e.Number place value type) ≡ 1
 expression_number place value type = expression _ _ (e.rolls-Number place value type)
@@ -101,7 +100,7 @@ pub expression_call : (place : Place) (a : Expression) (all : List Expression) �
     nodes_of_expression (e.Call place a all) ≡ 1 + nodes_of_expression a + total (map nodes_of_expression all)
 expression_call place a all = expression _ _ (e.rolls-Call place a all)
 
-pub expression_select : (place : Place) (how : Selection) (a : Expression) (name : Name) →
+pub expression_select : (place : Place) (how : Selection) (a : Expression) (name : ℕ) →
     nodes_of_expression (e.Select place how a name) ≡ 1 + nodes_of_expression a
 expression_select place how a name = expression _ _ (e.rolls-Select place how a name)
 
@@ -114,20 +113,20 @@ expression_prefix place op a = expression _ _ (e.rolls-Prefix place op a)
 pub expression_size_of : (place : Place) (a : Expression) → nodes_of_expression (e.SizeOf place a) ≡ 1 + nodes_of_expression a
 expression_size_of place a = expression _ _ (e.rolls-SizeOf place a)
 
-pub expression_size_of_type : (place : Place) (type : TypeName) → nodes_of_expression (e.SizeOfType place type) ≡ 1 + nodes_of_type_name type
+pub expression_size_of_type : (place : Place) (type : TypePhrase) → nodes_of_expression (e.SizeOfType place type) ≡ 1 + nodes_of_type_phrase type
 expression_size_of_type place type = expression _ _ (e.rolls-SizeOfType place type)
 
-pub expression_cast : (place : Place) (type : TypeName) (a : Expression) →
-    nodes_of_expression (e.Cast place type a) ≡ 1 + nodes_of_type_name type + nodes_of_expression a
+pub expression_cast : (place : Place) (type : TypePhrase) (a : Expression) →
+    nodes_of_expression (e.Cast place type a) ≡ 1 + nodes_of_type_phrase type + nodes_of_expression a
 expression_cast place type a = expression _ _ (e.rolls-Cast place type a)
 
 pub expression_binary : (place : Place) (op : Binary) (a b : Expression) →
     nodes_of_expression (e.Binary place op a b) ≡ 1 + nodes_of_expression a + nodes_of_expression b
 expression_binary place op a b = expression _ _ (e.rolls-Binary place op a b)
 
-pub expression_choice : (place : Place) (a b c : Expression) →
+pub expression_conditional : (place : Place) (a b c : Expression) →
     nodes_of_expression (e.Conditional place a b c) ≡ 1 + nodes_of_expression a + nodes_of_expression b + nodes_of_expression c
-expression_choice place a b c = expression _ _ (e.rolls-Conditional place a b c)
+expression_conditional place a b c = expression _ _ (e.rolls-Conditional place a b c)
 
 pub expression_assign : (place : Place) (op : Assignment) (a b : Expression) →
     nodes_of_expression (e.Assign place op a b) ≡ 1 + nodes_of_expression a + nodes_of_expression b
@@ -147,56 +146,56 @@ specifier_qualifier place which = specifier _ _ (s.rolls-Qualifier place which)
 pub specifier_basic : (place : Place) (which : BasicWord) → nodes_of_specifier (s.Basic place which) ≡ 1
 specifier_basic place which = specifier _ _ (s.rolls-Basic place which)
 
-pub specifier_members : (place : Place) (which : Aggregate) (tag : Option Name) (all : List Member) →
+pub specifier_members : (place : Place) (which : Aggregate) (tag : Option ℕ) (all : List Member) →
     nodes_of_specifier (s.Members place which tag all) ≡ 1 + total (map nodes_of_member all)
 specifier_members place which tag all = specifier _ _ (s.rolls-Members place which tag all)
 
-pub specifier_tag : (place : Place) (which : Aggregate) (tag : Name) → nodes_of_specifier (s.Tag place which tag) ≡ 1
+pub specifier_tag : (place : Place) (which : Aggregate) (tag : ℕ) → nodes_of_specifier (s.Tag place which tag) ≡ 1
 specifier_tag place which tag = specifier _ _ (s.rolls-Tag place which tag)
 
-pub specifier_enumerators : (place : Place) (tag : Option Name) (all : List Enumerator) →
+pub specifier_enumerators : (place : Place) (tag : Option ℕ) (all : List Enumerator) →
     nodes_of_specifier (s.Enumerators place tag all) ≡ 1 + total (map nodes_of_enumerator all)
 specifier_enumerators place tag all = specifier _ _ (s.rolls-Enumerators place tag all)
 
-pub specifier_enum_tag : (place : Place) (tag : Name) → nodes_of_specifier (s.EnumTag place tag) ≡ 1
+pub specifier_enum_tag : (place : Place) (tag : ℕ) → nodes_of_specifier (s.EnumTag place tag) ≡ 1
 specifier_enum_tag place tag = specifier _ _ (s.rolls-EnumTag place tag)
 
-pub specifier_type_name : (place : Place) (name : Name) → nodes_of_specifier (s.TypeName place name) ≡ 1
-specifier_type_name place name = specifier _ _ (s.rolls-TypeName place name)
+pub specifier_typedef_name : (place : Place) → nodes_of_specifier (s.TypedefName place) ≡ 1
+specifier_typedef_name place = specifier _ _ (s.rolls-TypedefName place)
 
 -- ---- what has one form
 
-pub enumerator_counted : (place : Place) (name : Name) → nodes_of_enumerator (record { place = place; name = name; value = None }) ≡ 1 + 0
+pub enumerator_without_value : (place : Place) → nodes_of_enumerator (record { place = place; value = None }) ≡ 1 + 0
 unfolding nodes_of_enumerator
-enumerator_counted place name =
+enumerator_without_value place =
     fold_out-Enumerator ℕ ℕ ℕ ℕ ℕ ℕ ℕ ℕ
-    declarator_step expression_step specifier_step enumerator_step member_step parameter_step specs_step type_name_step
-    (record { place = place; name = name; value = None })
+    declarator_step expression_step specifier_step enumerator_step member_step parameter_step specs_step type_phrase_step
+    (record { place = place; value = None })
 
-pub enumerator_given : (place : Place) (name : Name) (value : Expression) →
-    nodes_of_enumerator (record { place = place; name = name; value = Some value }) ≡ 1 + nodes_of_expression value
+pub enumerator_with_value : (place : Place) (value : Expression) →
+    nodes_of_enumerator (record { place = place; value = Some value }) ≡ 1 + nodes_of_expression value
 unfolding nodes_of_enumerator nodes_of_expression
-enumerator_given place name value =
+enumerator_with_value place value =
     fold_out-Enumerator ℕ ℕ ℕ ℕ ℕ ℕ ℕ ℕ
-    declarator_step expression_step specifier_step enumerator_step member_step parameter_step specs_step type_name_step
-    (record { place = place; name = name; value = Some value })
+    declarator_step expression_step specifier_step enumerator_step member_step parameter_step specs_step type_phrase_step
+    (record { place = place; value = Some value })
 
 pub member_nodes : (one : Member) → nodes_of_member one ≡ 1 + nodes_of_specs one.specs + total (map nodes_of_declarator one.declarators)
 unfolding nodes_of_member nodes_of_specs nodes_of_declarator
 member_nodes = fold_out-Member ℕ ℕ ℕ ℕ ℕ ℕ ℕ ℕ
-    declarator_step expression_step specifier_step enumerator_step member_step parameter_step specs_step type_name_step
+    declarator_step expression_step specifier_step enumerator_step member_step parameter_step specs_step type_phrase_step
 
 pub parameter_nodes : (one : Parameter) → nodes_of_parameter one ≡ 1 + nodes_of_specs one.specs + nodes_of_declarator one.declarator
 unfolding nodes_of_parameter nodes_of_specs nodes_of_declarator
 parameter_nodes = fold_out-Parameter ℕ ℕ ℕ ℕ ℕ ℕ ℕ ℕ
-    declarator_step expression_step specifier_step enumerator_step member_step parameter_step specs_step type_name_step
+    declarator_step expression_step specifier_step enumerator_step member_step parameter_step specs_step type_phrase_step
 
 pub specs_nodes : (one : Specs) → nodes_of_specs one ≡ 1 + total (map nodes_of_specifier one.words)
 unfolding nodes_of_specs nodes_of_specifier
 specs_nodes = fold_out-Specs ℕ ℕ ℕ ℕ ℕ ℕ ℕ ℕ
-    declarator_step expression_step specifier_step enumerator_step member_step parameter_step specs_step type_name_step
+    declarator_step expression_step specifier_step enumerator_step member_step parameter_step specs_step type_phrase_step
 
-pub type_name_nodes : (one : TypeName) → nodes_of_type_name one ≡ 1 + nodes_of_specs one.specs + nodes_of_declarator one.declarator
-unfolding nodes_of_type_name nodes_of_specs nodes_of_declarator
-type_name_nodes = fold_out-TypeName ℕ ℕ ℕ ℕ ℕ ℕ ℕ ℕ
-    declarator_step expression_step specifier_step enumerator_step member_step parameter_step specs_step type_name_step
+pub type_phrase_nodes : (one : TypePhrase) → nodes_of_type_phrase one ≡ 1 + nodes_of_specs one.specs + nodes_of_declarator one.declarator
+unfolding nodes_of_type_phrase nodes_of_specs nodes_of_declarator
+type_phrase_nodes = fold_out-TypePhrase ℕ ℕ ℕ ℕ ℕ ℕ ℕ ℕ
+    declarator_step expression_step specifier_step enumerator_step member_step parameter_step specs_step type_phrase_step

@@ -2,8 +2,9 @@
 use Rattle.std.proofs.Common.{ℕ, ◌+◌, ◌*◌, ◌<◌, ◌≤◌, List, length, map, Option, Some, None, arith}
 use Rattle.c_tokens.specs.declared.token.Token.{Token}
 use Rattle.c_grammar.specs.declared.words.Qualifier.{Qualifier}
+use Rattle.c_grammar.specs.declared.words.Naming.{Naming}
 use Rattle.c_grammar.specs.declared.phrases.Expression.{Expression}
-use Rattle.c_grammar.specs.declared.phrases.TypeName.{TypeName}
+use Rattle.c_grammar.specs.declared.phrases.TypePhrase.{TypePhrase}
 use Rattle.c_grammar.specs.declared.phrases.Specs.{Specs}
 use Rattle.c_grammar.specs.declared.phrases.Specifier.{Specifier}
 use Rattle.c_grammar.specs.declared.phrases.Member.{Member}
@@ -11,14 +12,15 @@ use Rattle.c_grammar.specs.declared.phrases.Enumerator.{Enumerator}
 use Rattle.c_grammar.specs.declared.phrases.Declarator.{Declarator}
 use Rattle.c_grammar.specs.declared.phrases.Parameter.{Parameter}
 use Rattle.c_grammar.specs.Tokens as t
-use Rattle.c_grammar.specs.Tokens.{Name, AreStrings, IsOptionalName, ClosesList}
+use Rattle.c_tokens.specs.Names.{Name}
+use Rattle.c_grammar.specs.Tokens.{AreStrings, IsOptionalName, ClosesList}
 use Rattle.c_grammar.specs.Words.{Role}
 use Rattle.c_grammar.specs.Scope.{Scope}
 use Rattle.c_grammar.specs.Phrases as p
-use Rattle.c_grammar.specs.Phrases.{IsExpression, AreExpressions, IsTypeName, IsSpecs, AreSpecifiers, IsSpecifier, AreMembers, IsMember, AreDeclarators, AreEnumerators, IsEnumerator, IsDeclarator, AreParameters, AreSomeParameters, IsParameter, AreQualifiers, Form, Grip}
-use Rattle.tree_sizes.specs.Sizes.{total, nodes_of_declarator, nodes_of_expression, nodes_of_specifier, nodes_of_enumerator, nodes_of_member, nodes_of_parameter, nodes_of_specs, nodes_of_type_name}
+use Rattle.c_grammar.specs.Phrases.{IsExpression, AreExpressions, IsTypeName, IsSpecs, AreSpecifiers, IsSpecifier, AreMembers, IsMember, AreDeclarators, AreEnumerators, IsEnumerator, IsDeclarator, AreParameters, AreSomeParameters, IsParameter, AreQualifiers, DeclaratorKind}
+use Rattle.tree_sizes.specs.Sizes.{total, nodes_of_declarator, nodes_of_expression, nodes_of_specifier, nodes_of_enumerator, nodes_of_member, nodes_of_parameter, nodes_of_specs, nodes_of_type_phrase}
 use Rattle.tree_sizes.proofs.OneType.{no_type_of_none}
-use Rattle.tree_sizes.proofs.PhraseEquations.{declarator_name, declarator_unnamed, declarator_pointer, declarator_parentheses, declarator_open_array, declarator_array, declarator_function, expression_name, expression_number, expression_character, expression_strings, expression_parentheses, expression_index, expression_call, expression_select, expression_postfix, expression_prefix, expression_size_of, expression_size_of_type, expression_cast, expression_binary, expression_choice, expression_assign, expression_comma, specifier_storage, specifier_qualifier, specifier_basic, specifier_members, specifier_tag, specifier_enumerators, specifier_enum_tag, specifier_type_name, enumerator_counted, enumerator_given, member_nodes, parameter_nodes, specs_nodes, type_name_nodes}
+use Rattle.tree_sizes.proofs.PhraseEquations.{declarator_name, declarator_unnamed, declarator_pointer, declarator_parentheses, declarator_open_array, declarator_array, declarator_function, expression_name, expression_number, expression_character, expression_strings, expression_parentheses, expression_index, expression_call, expression_select, expression_postfix, expression_prefix, expression_size_of, expression_size_of_type, expression_cast, expression_binary, expression_conditional, expression_assign, expression_comma, specifier_storage, specifier_qualifier, specifier_basic, specifier_members, specifier_tag, specifier_enumerators, specifier_enum_tag, specifier_typedef_name, enumerator_without_value, enumerator_with_value, member_nodes, parameter_nodes, specs_nodes, type_phrase_nodes}
 
 -- ---- what has no nodes takes tokens
 
@@ -36,9 +38,9 @@ module _ (ts : List Token) where
   closing_moves (t.brace is) = omega arith
   closing_moves (t.comma_and_brace is closes) = omega arith
 
-  optional_name_moves : (text : List ℕ) {from to : ℕ} {tag : Option Name} → IsOptionalName text ts from to tag → from ≤ to
-  optional_name_moves text t.absent = omega arith
-  optional_name_moves text (t.present is) = omega arith
+  optional_name_moves : {from to : ℕ} {tag : Option ℕ} → IsOptionalName ts from to tag → from ≤ to
+  optional_name_moves t.absent = omega arith
+  optional_name_moves (t.present is) = omega arith
 
 -- ---- phrases
 
@@ -63,12 +65,12 @@ module _ (text : List ℕ) (ts : List Token) where
     expression_small (p.postfix op low a is) = let i = expression_small a in rw expression_postfix (omega arith)
     expression_small (p.prefix op low is a) = let i = expression_small a in rw expression_prefix (omega arith)
     expression_small (p.size_of low is a) = let i = expression_small a in rw expression_size_of (omega arith)
-    expression_small (p.size_of_type low is opens type closes) = let i = type_name_small type in rw expression_size_of_type (omega arith)
-    expression_small (p.cast_to low is type closes a) = let i = type_name_small type in let j = expression_small a in rw expression_cast (omega arith)
+    expression_small (p.size_of_type low is opens type closes) = let i = type_phrase_small type in rw expression_size_of_type (omega arith)
+    expression_small (p.cast_to low is type closes a) = let i = type_phrase_small type in let j = expression_small a in rw expression_cast (omega arith)
     expression_small (p.binary op low a is b) = let i = expression_small a in let j = expression_small b in rw expression_binary (omega arith)
-    expression_small (p.choice low a is b also c) =
-        let i = expression_small a in let j = expression_small b in let l = expression_small c in rw expression_choice (omega arith)
-    expression_small (p.assign op low a is b) = let i = expression_small a in let j = expression_small b in rw expression_assign (omega arith)
+    expression_small (p.conditional low a is b also c) =
+        let i = expression_small a in let j = expression_small b in let l = expression_small c in rw expression_conditional (omega arith)
+    expression_small (p.assignment op low a is b) = let i = expression_small a in let j = expression_small b in rw expression_assign (omega arith)
     expression_small (p.comma low a is all) = let i = expression_small a in let j = expressions_small all in rw expression_comma (omega arith)
 
     pub expressions_small : {depth from to : ℕ} {scope after : Scope} {all : List Expression} → AreExpressions text ts depth scope after from to all →
@@ -76,9 +78,9 @@ module _ (text : List ℕ) (ts : List Token) where
     expressions_small (p.last_expression a) = let i = expression_small a in omega arith
     expressions_small (p.more_expressions a is rest) = let i = expression_small a in let j = expressions_small rest in omega arith
 
-    pub type_name_small : {depth from to : ℕ} {scope after : Scope} {type : TypeName} → IsTypeName text ts depth scope after from to type →
-        nodes_of_type_name type + 2 * from ≤ 2 * to + 2
-    type_name_small (p.type_name held a) = let i = specs_small held in let j = declarator_small a in rw type_name_nodes (omega arith)
+    pub type_phrase_small : {depth from to : ℕ} {scope after : Scope} {type : TypePhrase} → IsTypeName text ts depth scope after from to type →
+        nodes_of_type_phrase type + 2 * from ≤ 2 * to + 2
+    type_phrase_small (p.type_name held a) = let i = specs_small held in let j = declarator_small a in rw type_phrase_nodes (omega arith)
 
     pub specs_small : {depth from to : ℕ} {scope after : Scope} {roles : List Role} {specs : Specs} → IsSpecs text ts depth scope after roles from to specs →
         nodes_of_specs specs + 2 * from ≤ 2 * to
@@ -97,12 +99,12 @@ module _ (text : List ℕ) (ts : List Token) where
     specifier_small (p.qualifier which is) = rw specifier_qualifier (omega arith)
     specifier_small (p.basic which is) = rw specifier_basic (omega arith)
     specifier_small (p.members which is named opens all closes) =
-        let i = optional_name_moves ts text named in let j = members_small all in rw specifier_members (omega arith)
+        let i = optional_name_moves ts named in let j = members_small all in rw specifier_members (omega arith)
     specifier_small (p.tag which is named) = rw specifier_tag (omega arith)
     specifier_small (p.enumerators is named opens all closes) =
-        let i = optional_name_moves ts text named in let j = enumerators_small all in let l = closing_moves ts closes in rw specifier_enumerators (omega arith)
+        let i = optional_name_moves ts named in let j = enumerators_small all in let l = closing_moves ts closes in rw specifier_enumerators (omega arith)
     specifier_small (p.enum_tag is named) = rw specifier_enum_tag (omega arith)
-    specifier_small (p.named_type is known none) = rw specifier_type_name (omega arith)
+    specifier_small (p.named_type is known none) = rw specifier_typedef_name (omega arith)
 
     members_small : {depth from to : ℕ} {scope after : Scope} {all : List Member} → AreMembers text ts depth scope after from to all →
         total (map nodes_of_member all) + 2 * from ≤ 2 * to
@@ -125,16 +127,17 @@ module _ (text : List ℕ) (ts : List Token) where
 
     enumerator_small : {depth from to : ℕ} {scope after : Scope} {found : Enumerator} → IsEnumerator text ts depth scope after from to found →
         nodes_of_enumerator found + 1 + 2 * from ≤ 2 * to
-    enumerator_small (p.counted is) = rw enumerator_counted (omega arith)
-    enumerator_small (p.given is equal a) = let i = expression_small a in rw enumerator_given (omega arith)
+    enumerator_small (p.without_value is) = rw enumerator_without_value (omega arith)
+    enumerator_small (p.with_value is equal a) = let i = expression_small a in rw enumerator_with_value (omega arith)
 
-    pub declarator_small : {form : Form} {grip : Grip} {depth from to : ℕ} {scope after : Scope} {name : Option Name} {own : Option Scope} {found : Declarator} →
-        IsDeclarator text ts form grip depth scope after from to name own found → nodes_of_declarator found + 1 + 2 * from ≤ 2 * to + left_out name
+    pub declarator_small : {how : Naming} {kind : DeclaratorKind} {depth from to : ℕ} {scope after : Scope} {name : Option Name} {own : Option Scope} {found : Declarator} →
+        IsDeclarator text ts how kind depth scope after from to name own found → nodes_of_declarator found + 1 + 2 * from ≤ 2 * to + left_out name
     declarator_small (p.declared_name is) = rw declarator_name (omega arith)
     declarator_small (p.parameter_name is) = rw declarator_name (omega arith)
     declarator_small p.no_name = rw declarator_unnamed (omega arith)
+    declarator_small p.no_parameter_name = rw declarator_unnamed (omega arith)
     declarator_small (p.pointer is all a) = let i = qualifiers_move ts all in let j = declarator_small a in rw declarator_pointer (omega arith)
-    declarator_small (p.enclosed is may a some closes) = let i = declarator_small a in rw declarator_parentheses (omega arith)
+    declarator_small (p.in_parentheses is may a some closes) = let i = declarator_small a in rw declarator_parentheses (omega arith)
     declarator_small (p.open_array a is closes) = let i = declarator_small a in rw declarator_open_array (omega arith)
     declarator_small (p.array a is size closes) = let i = declarator_small a in let j = expression_small size in rw declarator_array (omega arith)
     declarator_small (p.function a is all closes) = let i = declarator_small a in let j = parameters_small all in rw declarator_function (omega arith)

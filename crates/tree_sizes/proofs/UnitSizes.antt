@@ -2,7 +2,7 @@
 use Rattle.std.proofs.Common.{ℕ, ◌+◌, ◌*◌, ◌≤◌, List, length, map, Option, arith}
 use Rattle.c_tokens.specs.declared.token.Token.{Token}
 use Rattle.c_grammar.specs.declared.phrases.Expression.{Expression}
-use Rattle.c_grammar.specs.declared.phrases.TypeName.{TypeName}
+use Rattle.c_grammar.specs.declared.units.TypeName.{TypeName}
 use Rattle.c_grammar.specs.declared.statements.Initialiser.{Initialiser}
 use Rattle.c_grammar.specs.declared.statements.InitDeclarator.{InitDeclarator}
 use Rattle.c_grammar.specs.declared.statements.Declaration.{Declaration}
@@ -13,17 +13,18 @@ use Rattle.c_grammar.specs.declared.statements.Block.{Block}
 use Rattle.c_grammar.specs.declared.units.Function.{Function}
 use Rattle.c_grammar.specs.declared.units.External.{External}
 use Rattle.c_grammar.specs.declared.units.Unit.{Unit as Whole}
-use Rattle.c_grammar.specs.Tokens.{Name}
-use Rattle.c_grammar.specs.Scope.{Scope, Use}
+use Rattle.c_tokens.specs.Names.{Name}
+use Rattle.c_grammar.specs.declared.words.NameKind.{NameKind}
+use Rattle.c_grammar.specs.Scope.{Scope}
 use Rattle.c_grammar.specs.Initialisers as d
 use Rattle.c_grammar.specs.Initialisers.{IsInitialiser, AreInitialisers, IsInitDeclarator, AreInitDeclarators, IsDeclaration}
 use Rattle.c_grammar.specs.Statements as s
 use Rattle.c_grammar.specs.Statements.{IsOptional, IsForStart, IsBlock, AreItems, IsStatement}
 use Rattle.c_grammar.specs.Units as u
 use Rattle.c_grammar.specs.Units.{IsFunction, AreExternals, Derives, DerivesTypeName}
-use Rattle.tree_sizes.specs.Sizes.{total, nodes_of_type_name, nodes_of_initialiser, nodes_of_init_declarator, nodes_of_declaration, nodes_of_optional, nodes_of_for_start, nodes_of_block_item, nodes_of_statement, nodes_of_block, nodes_of_function, nodes_of_external, nodes_of_unit}
+use Rattle.tree_sizes.specs.Sizes.{total, nodes_of_type_phrase, nodes_of_initialiser, nodes_of_init_declarator, nodes_of_declaration, nodes_of_optional, nodes_of_for_start, nodes_of_block_item, nodes_of_statement, nodes_of_block, nodes_of_function, nodes_of_external, nodes_of_unit}
 use Rattle.tree_sizes.proofs.StatementEquations.{initialiser_value, initialiser_braces, item_declaration, item_statement, block_nodes, statement_block, statement_empty, statement_expression, statement_if, statement_if_else, statement_while, statement_do, statement_for, statement_switch, statement_case, statement_default, statement_break, statement_continue, statement_return}
-use Rattle.tree_sizes.proofs.PhraseSizes.{closing_moves, expression_small, type_name_small, specs_small, declarator_small}
+use Rattle.tree_sizes.proofs.PhraseSizes.{closing_moves, expression_small, type_phrase_small, specs_small, declarator_small}
 
 module _ (text : List ℕ) (ts : List Token) where
   -- ---- declarations
@@ -39,14 +40,14 @@ module _ (text : List ℕ) (ts : List Token) where
     initialisers_small (d.last_initialiser a) = let i = initialiser_small a in omega arith
     initialisers_small (d.more_initialisers a is rest) = let i = initialiser_small a in let j = initialisers_small rest in omega arith
 
-  init_declarator_small : {depth from to : ℕ} {named : Use} {scope after : Scope} {found : InitDeclarator} →
-      IsInitDeclarator text ts depth named scope after from to found → nodes_of_init_declarator found + 2 * from ≤ 2 * to
+  init_declarator_small : {depth from to : ℕ} {kind : NameKind} {scope after : Scope} {found : InitDeclarator} →
+      IsInitDeclarator text ts depth kind scope after from to found → nodes_of_init_declarator found + 2 * from ≤ 2 * to
   unfolding nodes_of_init_declarator
   init_declarator_small (d.without_value a) = let i = declarator_small text ts a in omega arith
   init_declarator_small (d.with_value a is b) = let i = declarator_small text ts a in let j = initialiser_small b in omega arith
 
-  init_declarators_small : {depth from to : ℕ} {named : Use} {scope after : Scope} {all : List InitDeclarator} →
-      AreInitDeclarators text ts depth named scope after from to all → total (map nodes_of_init_declarator all) + 2 * from ≤ 2 * to
+  init_declarators_small : {depth from to : ℕ} {kind : NameKind} {scope after : Scope} {all : List InitDeclarator} →
+      AreInitDeclarators text ts depth kind scope after from to all → total (map nodes_of_init_declarator all) + 2 * from ≤ 2 * to
   init_declarators_small (d.last a) = let i = init_declarator_small a in omega arith
   init_declarators_small (d.more a is rest) = let i = init_declarator_small a in let j = init_declarators_small rest in omega arith
 
@@ -117,8 +118,8 @@ module _ (text : List ℕ) (ts : List Token) where
 
   pub unit_small : (unit : Whole) → Derives text ts unit → nodes_of_unit unit ≤ 2 * length ts + 1
   unfolding nodes_of_unit
-  unit_small unit all = let i = externals_small all in omega arith
+  unit_small unit derived = let i = externals_small derived.items in omega arith
 
-  pub whole_type_name_small : (typedefs : List Name) (type : TypeName) → DerivesTypeName text ts typedefs type →
-      nodes_of_type_name type ≤ 2 * length ts + 2
-  whole_type_name_small typedefs type derived = let i = type_name_small text ts derived.is in omega arith
+  pub type_name_small : (typedefs : List Name) (type : TypeName) → DerivesTypeName text ts typedefs type →
+      nodes_of_type_phrase type.phrase ≤ 2 * length ts + 2
+  type_name_small typedefs type derived = let i = type_phrase_small text ts derived.phrase in omega arith

@@ -1,2 +1,3 @@
 pub mod Sizes
+pub mod Depths
 pub mod Bounds

@@ -3,7 +3,7 @@
 -- A node is a value of one of the tree's types: an expression, the name of a type, specifiers together and each of them, a member, an enumerator, a
 -- declarator (also the name that is left out), a parameter, an initialiser, a declarator with its initialiser, a declaration, a block, an item of it,
 -- a statement, what a `for` begins with, a function, an external, a unit. So an external that is a function is a node, and the function is another.
--- Each qualifier behind a `*` is a node, too. Names, words, marks, operators, values and places are none. A tree has itself and the nodes of its parts.
+-- Each qualifier after a `*` is a node, too. Names, words, marks, operators, values and places are none. A tree has itself and the nodes of its parts.
 --
 -- The types of phrases lead to one another, and so do those of statements. A step looks at one layer, in which each part is the number of its nodes.
 use Rattle.std.specs.Prelude.{ℕ, ◌+◌, List, [], ◌∷◌, length, map, Option, Some, None}
@@ -14,7 +14,7 @@ use Rattle.c_grammar.specs.declared.phrases.Enumerator.{Enumerator, Enumerator-F
 use Rattle.c_grammar.specs.declared.phrases.Member.{Member, Member-F, fold-Member}
 use Rattle.c_grammar.specs.declared.phrases.Parameter.{Parameter, Parameter-F, fold-Parameter}
 use Rattle.c_grammar.specs.declared.phrases.Specs.{Specs, Specs-F, fold-Specs}
-use Rattle.c_grammar.specs.declared.phrases.TypeName.{TypeName, TypeName-F, fold-TypeName}
+use Rattle.c_grammar.specs.declared.phrases.TypePhrase.{TypePhrase, TypePhrase-F, fold-TypePhrase}
 use Rattle.c_grammar.specs.declared.statements.Initialiser.{Initialiser, Initialiser-F, fold-Initialiser}
 use Rattle.c_grammar.specs.declared.statements.InitDeclarator.{InitDeclarator}
 use Rattle.c_grammar.specs.declared.statements.Declaration.{Declaration}
@@ -40,7 +40,7 @@ if_any (Some part) = part
 -- ---- phrases
 
 abbrev pub declarator_step : Declarator-F ℕ ℕ ℕ ℕ ℕ ℕ ℕ ℕ → ℕ
-declarator_step (Declarator-F.Declarator::Name place name) = 1
+declarator_step (Declarator-F.Declarator::Name place) = 1
 declarator_step Declarator-F.Unnamed = 1
 declarator_step (Declarator-F.Pointer place qualifiers inner) = 1 + length qualifiers + inner
 declarator_step (Declarator-F.Declarator::Parentheses place inner) = 1 + inner
@@ -48,7 +48,7 @@ declarator_step (Declarator-F.Array place element size) = 1 + element + if_any s
 declarator_step (Declarator-F.Function place result parameters) = 1 + result + total parameters
 
 abbrev pub expression_step : Expression-F ℕ ℕ ℕ ℕ ℕ ℕ ℕ ℕ → ℕ
-expression_step (Expression-F.Expression::Name place name) = 1
+expression_step (Expression-F.Expression::Name place) = 1
 expression_step (Expression-F.Number place value type) = 1
 expression_step (Expression-F.Character place value) = 1
 expression_step (Expression-F.Strings place to) = 1
@@ -74,7 +74,7 @@ specifier_step (Specifier-F.Members place which tag members) = 1 + total members
 specifier_step (Specifier-F.Tag place which tag) = 1
 specifier_step (Specifier-F.Enumerators place tag enumerators) = 1 + total enumerators
 specifier_step (Specifier-F.EnumTag place tag) = 1
-specifier_step (Specifier-F.TypeName place name) = 1
+specifier_step (Specifier-F.TypedefName place) = 1
 
 abbrev pub enumerator_step : Enumerator-F ℕ ℕ ℕ ℕ ℕ ℕ ℕ ℕ → ℕ
 enumerator_step enumerator = 1 + if_any enumerator.value
@@ -88,40 +88,40 @@ parameter_step parameter = 1 + parameter.specs + parameter.declarator
 abbrev pub specs_step : Specs-F ℕ ℕ ℕ ℕ ℕ ℕ ℕ ℕ → ℕ
 specs_step specs = 1 + total specs.words
 
-abbrev pub type_name_step : TypeName-F ℕ ℕ ℕ ℕ ℕ ℕ ℕ ℕ → ℕ
-type_name_step type = 1 + type.specs + type.declarator
+abbrev pub type_phrase_step : TypePhrase-F ℕ ℕ ℕ ℕ ℕ ℕ ℕ ℕ → ℕ
+type_phrase_step type = 1 + type.specs + type.declarator
 
 unfoldable pub nodes_of_declarator : Declarator → ℕ
 nodes_of_declarator = fold-Declarator ℕ ℕ ℕ ℕ ℕ ℕ ℕ ℕ
-    declarator_step expression_step specifier_step enumerator_step member_step parameter_step specs_step type_name_step
+    declarator_step expression_step specifier_step enumerator_step member_step parameter_step specs_step type_phrase_step
 
 unfoldable pub nodes_of_expression : Expression → ℕ
 nodes_of_expression = fold-Expression ℕ ℕ ℕ ℕ ℕ ℕ ℕ ℕ
-    declarator_step expression_step specifier_step enumerator_step member_step parameter_step specs_step type_name_step
+    declarator_step expression_step specifier_step enumerator_step member_step parameter_step specs_step type_phrase_step
 
 unfoldable pub nodes_of_specifier : Specifier → ℕ
 nodes_of_specifier = fold-Specifier ℕ ℕ ℕ ℕ ℕ ℕ ℕ ℕ
-    declarator_step expression_step specifier_step enumerator_step member_step parameter_step specs_step type_name_step
+    declarator_step expression_step specifier_step enumerator_step member_step parameter_step specs_step type_phrase_step
 
 unfoldable pub nodes_of_enumerator : Enumerator → ℕ
 nodes_of_enumerator = fold-Enumerator ℕ ℕ ℕ ℕ ℕ ℕ ℕ ℕ
-    declarator_step expression_step specifier_step enumerator_step member_step parameter_step specs_step type_name_step
+    declarator_step expression_step specifier_step enumerator_step member_step parameter_step specs_step type_phrase_step
 
 unfoldable pub nodes_of_member : Member → ℕ
 nodes_of_member = fold-Member ℕ ℕ ℕ ℕ ℕ ℕ ℕ ℕ
-    declarator_step expression_step specifier_step enumerator_step member_step parameter_step specs_step type_name_step
+    declarator_step expression_step specifier_step enumerator_step member_step parameter_step specs_step type_phrase_step
 
 unfoldable pub nodes_of_parameter : Parameter → ℕ
 nodes_of_parameter = fold-Parameter ℕ ℕ ℕ ℕ ℕ ℕ ℕ ℕ
-    declarator_step expression_step specifier_step enumerator_step member_step parameter_step specs_step type_name_step
+    declarator_step expression_step specifier_step enumerator_step member_step parameter_step specs_step type_phrase_step
 
 unfoldable pub nodes_of_specs : Specs → ℕ
 nodes_of_specs = fold-Specs ℕ ℕ ℕ ℕ ℕ ℕ ℕ ℕ
-    declarator_step expression_step specifier_step enumerator_step member_step parameter_step specs_step type_name_step
+    declarator_step expression_step specifier_step enumerator_step member_step parameter_step specs_step type_phrase_step
 
-unfoldable pub nodes_of_type_name : TypeName → ℕ
-nodes_of_type_name = fold-TypeName ℕ ℕ ℕ ℕ ℕ ℕ ℕ ℕ
-    declarator_step expression_step specifier_step enumerator_step member_step parameter_step specs_step type_name_step
+unfoldable pub nodes_of_type_phrase : TypePhrase → ℕ
+nodes_of_type_phrase = fold-TypePhrase ℕ ℕ ℕ ℕ ℕ ℕ ℕ ℕ
+    declarator_step expression_step specifier_step enumerator_step member_step parameter_step specs_step type_phrase_step
 
 -- ---- declarations
 
@@ -132,12 +132,12 @@ initialiser_step (Initialiser-F.Braces place parts) = 1 + total parts
 unfoldable pub nodes_of_initialiser : Initialiser → ℕ
 nodes_of_initialiser = fold-Initialiser ℕ initialiser_step
 
-abbrev pub nodes_if_given : Option Initialiser → ℕ
-nodes_if_given None = 0
-nodes_if_given (Some value) = nodes_of_initialiser value
+abbrev pub nodes_of_optional_initialiser : Option Initialiser → ℕ
+nodes_of_optional_initialiser None = 0
+nodes_of_optional_initialiser (Some value) = nodes_of_initialiser value
 
 unfoldable pub nodes_of_init_declarator : InitDeclarator → ℕ
-nodes_of_init_declarator one = 1 + nodes_of_declarator one.declarator + nodes_if_given one.value
+nodes_of_init_declarator one = 1 + nodes_of_declarator one.declarator + nodes_of_optional_initialiser one.value
 
 unfoldable pub nodes_of_declaration : Declaration → ℕ
 nodes_of_declaration one = 1 + nodes_of_specs one.specs + total (map nodes_of_init_declarator one.declarators)

@@ -3,4 +3,4 @@
 
 mod laws;
 
-pub use laws::law_sizes;
+pub use laws::{law_depths, law_sizes};

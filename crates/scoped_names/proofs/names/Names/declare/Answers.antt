@@ -1,16 +1,19 @@
-use Rattle.std.proofs.Common.{◌≡◌, ◌++◌, ◌∷◌, [], Some, length, sym, ◌∙◌, rules, arith}
+use Rattle.std.proofs.Common.{◌≡◌, ◌++◌, ◌∷◌, [], Some, length, sym, ap, ◌∙◌, rules, arith}
 use Rattle.std.proofs.lemmas.Grind.{common_steps}
-use Rattle.scoped_names.specs.Scoping.{place_of}
-use Rattle.scoped_names.proofs.MapLemmas.{kept_push, changes, Changes}
+use Rattle.scoped_names.specs.Places.{place_of}
+use Rattle.scoped_names.proofs.TableLemmas.{kept_same, kept_push, changes}
 use Rattle.scoped_names.proofs.names.Names.declare.Goals as goal
 
 pub invariant_of-self-2 : goal.invariant_of-self-2
 invariant_of-self-2 c =
-    let change : Changes c.self.inside.places c.insert.new.self c.in_ok-from_slice-2.field-0.items (Some c.len-place.result) =
-    changes c.self.inside.places c.insert.new.self c.in_ok-from_slice-2.field-0.items (Some c.len-place.result) c.in_ok-insert.ensures.updates in
-    let same_name : c.in_ok-from_slice-2.field-0.items ≡ c.in_ok-from_slice.field-0.items = c.in_ok-from_slice-2.ensures.items ∙ sym c.in_ok-from_slice.ensures.items in
-    let place : c.len-place.result ≡ length c.self.inside.declared.items = first_of (search rules, grind (arith, common_steps)) in
-    let hides : c.copied.result ≡ place_of c.self.inside.places c.in_ok-from_slice.field-0.items = first_of (search rules, grind (arith, common_steps)) in
-    let items : c.push-stored.new.self.items ≡ c.self.inside.declared.items ++ record { name = c.in_ok-from_slice.field-0; hides = c.copied.result } ∷ [] = first_of (search rules, grind (arith, common_steps)) in
-    rw items (kept_push c.self.inside.places c.insert.new.self c.self.inside.declared.items (record { name = c.in_ok-from_slice.field-0; hides = c.copied.result }) c.self.invariant
-    (rw (← same_name, ← place) change) hides)
+    let old = c.self.inside.places.items in
+    let room = c.make_room.new.places.items in
+    let declared = c.self.inside.declared.items in
+    let kept = kept_same old room declared c.self.invariant c.in_ok-make_room.ensures.same in
+    let change = changes room c.args.name (Some c.len-place.result) c.in_ok-make_room.ensures.room in
+    let place : c.len-place.result ≡ length declared = first_of (search rules, grind (arith, common_steps)) in
+    let hides : c.place_in-hides.result ≡ place_of room c.args.name =
+    c.place_in-hides.ensures ∙ ap (λ l. place_of l c.args.name) c.as_slice.ensures.value ∙ sym (c.in_ok-make_room.ensures.same c.args.name) in
+    let items : c.push-stored.new.self.items ≡ declared ++ record { name = c.args.name; hides = c.place_in-hides.result } ∷ [] = first_of (search rules, grind (arith, common_steps)) in
+    rw (items, c.set_place.ensures)
+    (kept_push room _ declared (record { name = c.args.name; hides = c.place_in-hides.result }) kept (rw (← place) change) hides)

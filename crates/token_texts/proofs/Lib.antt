@@ -1,0 +1,5 @@
+pub mod Lists
+pub mod Distinct
+pub mod MapLemmas
+pub mod Tables
+pub mod Steps
