@@ -1,4 +1,4 @@
--- Behind the parts of a statement, closing to the count of the names before it leaves what was in scope before it.
+-- After the parts of a statement, closing to the count of the names before it leaves what was in scope before it.
 use Rattle.std.proofs.Common.{◌≡◌, ℕ, ◌-◌, List, [], length, drop, Option, Some, refl, subst}
 use Rattle.c_tokens.specs.declared.token.Token.{Token}
 use Rattle.c_grammar.specs.declared.phrases.Expression.{Expression}
@@ -40,7 +40,7 @@ module _ (text : List ℕ) (ts : List Token) (phrases : ℕ → Readers) (exact 
   pub after_condition : (before : Scope) (s t : State) (x : Expression) → s.scope ≡ before → st.condition text ts phrases depth s ≡ Some (x, t) → Closes before t.scope
   after_condition before s t x same e = subst (λ (l : Scope). Closes l t.scope) same (closed_again s.scope t.scope (grows_condition s t x e))
 
-  -- a condition, and a statement that begins with the scope behind it
+  -- a condition, and a statement that begins with the scope after it
   pub after_body : (s t u v : State) (x : Expression) (y : Statement) → st.condition text ts phrases depth s ≡ Some (x, t) → u.scope ≡ t.scope →
       st.statement text ts phrases depth u ≡ Some (y, v) → Closes s.scope v.scope
   after_body s t u v x y a same b =
@@ -51,7 +51,7 @@ module _ (text : List ℕ) (ts : List Token) (phrases : ℕ → Readers) (exact 
   after_switch s t u x y a b =
       closed_again s.scope u.scope (grows_on s.scope t.scope u.scope (grows_condition s t x a) (after_block t.scope t u y refl b))
 
-  -- what stands behind `for`, and a statement that begins with the scope behind it
+  -- what stands after `for`, and a statement that begins with the scope after it
   pub after_loop : (s t u : State) (x : ForStart × Option Expression × Option Expression) (y : Statement) → h.for_header text ts phrases depth s ≡ Some (x, t) →
       st.statement text ts phrases depth t ≡ Some (y, u) → Closes s.scope u.scope
   after_loop s t u x y a b =

@@ -5,7 +5,7 @@ use Rattle.c_tokens.specs.declared.kind.Mark.TheVariants as mark
 use Rattle.c_grammar.specs.declared.statements.Initialiser.{Initialiser}
 use Rattle.grammar_descent.specs.Reading.{State, Reading, ◌>>=◌, mark_at, past, Readers}
 use Rattle.grammar_descent.specs.InitialiserSteps as step
-use Rattle.c_parser.specs.Closing.{closed}
+use Rattle.c_parser.specs.ListEnd.{list_end}
 
 regroup : {A : Type 0} (a b d : Bool) (p q : State) (f g : State → Option A) →
     cond a (f p) (cond b (cond d (f q) (g p)) None)
@@ -38,21 +38,21 @@ module _ (ts : List Token) (phrases : ℕ → Readers) where
 
     initialisers-step : (n : ℕ) (found : List Initialiser) (s t : State) (next : Initialiser) → inner s ≡ Some (next, t) →
         step.initialisers ts phrases inner (suc n) found s
-        ≡ (closed ts t >>= λ c. cond c.0 (Some (found ++ next ∷ [], c.1)) (step.initialisers ts phrases inner n (found ++ next ∷ []) c.1))
+        ≡ (list_end ts t >>= λ c. cond c.0 (Some (found ++ next ∷ [], c.1)) (step.initialisers ts phrases inner n (found ++ next ∷ []) c.1))
     unfolding step.initialisers
     initialisers-step n found s t next h =
         rw h (regroup (mark_at ts t.at mark.RightBrace) (mark_at ts t.at mark.Comma) (mark_at ts (t.at + 1) mark.RightBrace) (past t 1) (past t 2)
         (λ u. Some (found ++ next ∷ [], u)) (λ u. step.initialisers ts phrases inner n (found ++ next ∷ []) u))
 
-    pub initialisers-fail : (n : ℕ) (found : List Initialiser) (s t : State) (next : Initialiser) → inner s ≡ Some (next, t) → closed ts t ≡ None →
+    pub initialisers-fail : (n : ℕ) (found : List Initialiser) (s t : State) (next : Initialiser) → inner s ≡ Some (next, t) → list_end ts t ≡ None →
         step.initialisers ts phrases inner (suc n) found s ≡ None
     initialisers-fail n found s t next h c = initialisers-step n found s t next h ∙ rw c refl
 
-    pub initialisers-end : (n : ℕ) (found : List Initialiser) (s t u : State) (next : Initialiser) → inner s ≡ Some (next, t) → closed ts t ≡ Some (true, u) →
+    pub initialisers-end : (n : ℕ) (found : List Initialiser) (s t u : State) (next : Initialiser) → inner s ≡ Some (next, t) → list_end ts t ≡ Some (true, u) →
         step.initialisers ts phrases inner (suc n) found s ≡ Some (found ++ next ∷ [], u)
     initialisers-end n found s t u next h c = initialisers-step n found s t next h ∙ rw c refl
 
-    pub initialisers-more : (n : ℕ) (found : List Initialiser) (s t u : State) (next : Initialiser) → inner s ≡ Some (next, t) → closed ts t ≡ Some (false, u) →
+    pub initialisers-more : (n : ℕ) (found : List Initialiser) (s t u : State) (next : Initialiser) → inner s ≡ Some (next, t) → list_end ts t ≡ Some (false, u) →
         step.initialisers ts phrases inner (suc n) found s ≡ step.initialisers ts phrases inner n (found ++ next ∷ []) u
     initialisers-more n found s t u next h c = initialisers-step n found s t next h ∙ rw c refl
 

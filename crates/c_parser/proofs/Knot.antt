@@ -10,7 +10,7 @@ use Rattle.token_reader.specs.Input.{Input, Reads}
 pub none_at_zero : (depth level : ℕ) (input : Input) (e : ParseError) → depth ≡ 0 →
     Reads {A = Expression × ℕ} (λ text ts. (readers text ts depth).expression level) input (Err e) input
 unfolding readers
-none_at_zero zero level input e is = record { answer = λ at h. refl; text = refl; tokens = refl }
+none_at_zero zero level input e is = record { answer = λ at h. refl; text = refl; tokens = refl; texts = refl }
 none_at_zero (suc n) level input e is = absurd (omega arith)
 
 pub one_deeper : (depth level : ℕ) (before after : Input) (r : Result (Expression × ℕ) ParseError) → 0 < depth →

@@ -1,5 +1,7 @@
 pub mod Knot
 pub mod UnitLaws
+pub mod GivenNames
+pub mod NamedDeclarators
 pub mod Closings
 pub mod DeclarationSteps
 pub mod InitialiserSteps

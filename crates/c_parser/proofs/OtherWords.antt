@@ -11,7 +11,7 @@ use Rattle.grammar_descent.specs.StatementSteps as step
 
 module _ (text : List ℕ) (ts : List Token) (phrases : ℕ → Readers) (depth : ℕ) (inner : Reading Statement) (block : Reading Block) (s : State) where
   pub by_other_word : (w : Keyword) → ¬ (w ≡ word.If) → ¬ (w ≡ word.While) → ¬ (w ≡ word.Do) → ¬ (w ≡ word.For) → ¬ (w ≡ word.Switch) → ¬ (w ≡ word.Case) → ¬ (w ≡ word.Default) → ¬ (w ≡ word.Break) → ¬ (w ≡ word.Continue) → ¬ (w ≡ word.Return) →
-      step.statement_by text ts phrases depth inner block s (Some (k.Word w)) ≡ step.of_expression text ts phrases depth s
+      step.statement_by text ts phrases depth inner block s (Some (k.Word w)) ≡ step.expression_statement text ts phrases depth s
   by_other_word word.If a b c d e f g h i j = absurd (a refl)
   by_other_word word.While a b c d e f g h i j = absurd (b refl)
   by_other_word word.Do a b c d e f g h i j = absurd (c refl)

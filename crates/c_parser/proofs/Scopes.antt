@@ -1,4 +1,4 @@
--- What is in scope behind a phrase is what was before, and what the phrase declares.
+-- What is in scope after a phrase is what was before, and what the phrase declares.
 use Rattle.std.proofs.Common.{◌≡◌, ℕ, zero, suc, ◌+◌, ◌-◌, Bool, true, false, List, [], ◌∷◌, ◌++◌, length, drop, Option, Some, None, refl, sym, subst, ap, ◌∙◌, append_assoc, arith, length-append, if◌then◌else◌}
 use Rattle.c_tokens.specs.declared.token.Token.{Token}
 use Rattle.c_tokens.specs.declared.kind.Kind.{Kind}
@@ -13,15 +13,19 @@ use Rattle.c_grammar.specs.declared.statements.InitDeclarator.{InitDeclarator}
 use Rattle.c_grammar.specs.declared.statements.Statement.{Statement}
 use Rattle.c_grammar.specs.declared.statements.Block.{Block}
 use Rattle.c_grammar.specs.declared.statements.BlockItem.{BlockItem}
-use Rattle.c_grammar.specs.Tokens.{Name, kind_at}
+use Rattle.c_grammar.specs.Tokens.{kind_at}
 use Rattle.c_grammar.specs.Words.{Role}
-use Rattle.c_grammar.specs.Scope.{Scope, Use, use_of}
-use Rattle.c_grammar.specs.Operators.{any, conditional, assigned}
-use Rattle.grammar_descent.specs.Reading.{State, Reading, ◌>>=◌, mark_at, word_at, past, named, Readers}
+use Rattle.c_grammar.specs.Scope.{Scope, declared_kind}
+use Rattle.c_grammar.specs.Operators.{tightness}
+use Rattle.c_grammar.specs.declared.words.Level.TheVariants as of
+use Rattle.c_grammar.specs.declared.words.NameKind.{NameKind}
+use Rattle.c_grammar.specs.declared.words.Naming.TheVariants as naming
+use Rattle.c_tokens.specs.Names.{Name}
+use Rattle.grammar_descent.specs.Reading.{State, Reading, ◌>>=◌, mark_at, word_at, past, Readers}
 use Rattle.grammar_descent.specs.Types.{begins_specs}
 use Rattle.grammar_descent.specs.Exact.{Exact, Grows}
 use Rattle.grammar_descent.specs.InitialiserSteps as i
-use Rattle.grammar_descent.specs.InitialiserSteps.{Declared, declare, named_as}
+use Rattle.grammar_descent.specs.InitialiserSteps.{NamedDeclarator, declare, with_its_name}
 use Rattle.grammar_descent.specs.StatementSteps as st
 use Rattle.grammar_descent.specs.StatementSteps.{back}
 use Rattle.c_parser.specs.ForHeader as h
@@ -80,10 +84,10 @@ later : {A : Type 0} (one two : Scope) (answer : Option (A × State)) → Grows 
 later one two (Some f) g h = grows_on one two f.1.scope g h
 later one two None g h = tt
 
-declared_more : (scope : Scope) (d : Name × Use) → Grows scope (d ∷ scope)
+declared_more : (scope : Scope) (d : Name × NameKind) → Grows scope (d ∷ scope)
 declared_more scope d = record { new = d ∷ []; is = refl }
 
-named_grown : (name : Option Name) (d : Declarator) (own : Option Scope) (s : State) → Grown s.scope (named_as name d own s)
+named_grown : (name : Option Name) (d : Declarator) (own : Option Scope) (s : State) → Grown s.scope (with_its_name name d own s)
 named_grown (Some name) d own s = stays s.scope
 named_grown None d own s = tt
 
@@ -91,22 +95,22 @@ module _ (text : List ℕ) (ts : List Token) (phrases : ℕ → Readers) (exact 
   read_specs : (depth : ℕ) (s : State) → Grown s.scope ((phrases depth).specs s)
   read_specs depth s = from_found s.scope ((phrases depth).specs s) (λ f e. (exact depth).specs_sound.grows s f.1 f.0.0 f.0.1 f.0.2 e)
 
-  expression : (depth level : ℕ) (s : State) → Grown s.scope (i.expression ts phrases depth level s)
-  unfolding i.expression
+  expression : (depth level : ℕ) (s : State) → Grown s.scope (i.expression_at ts phrases depth level s)
+  unfolding i.expression_at
   expression depth level s =
       bind s.scope ((phrases depth).expression level s) (λ f. Some (f.0.0, f.1))
       (from_found s.scope ((phrases depth).expression level s) (λ f e. (exact depth).expression_sound.grows level s f.1 f.0.0 f.0.1 e)) (λ f. stays f.1.scope)
 
-  pub declarator : (depth : ℕ) (s : State) → Grown s.scope (i.declarator ts phrases depth s)
-  unfolding i.declarator
-  declarator depth s =
-      bind s.scope ((phrases depth).declarator named s) (λ f. named_as f.0.1 f.0.0 f.0.2 f.1)
-      (from_found s.scope ((phrases depth).declarator named s) (λ f e. (exact depth).declarator_sound.grows named s f.1 f.0.0 f.0.1 f.0.2 f.0.3 e))
-      (λ f. named_grown f.0.1 f.0.0 f.0.2 f.1)
+  named_declarator : (depth : ℕ) (s : State) → Grown s.scope (i.named_declarator ts phrases depth s)
+  unfolding i.named_declarator
+  named_declarator depth s =
+      bind s.scope ((phrases depth).declarator naming.Named s) (λ f. with_its_name f.0.name f.0.node f.0.own f.1)
+      (from_found s.scope ((phrases depth).declarator naming.Named s) (λ f e. (exact depth).declarator_sound.grows naming.Named s f.1 f.0 e))
+      (λ f. named_grown f.0.name f.0.node f.0.own f.1)
 
   value : (depth : ℕ) (s : State) → Grown s.scope (i.value ts phrases depth s)
   unfolding i.value
-  value depth s = bind s.scope (i.expression ts phrases depth assigned s) _ (expression depth assigned s) (λ f. stays f.1.scope)
+  value depth s = bind s.scope (i.expression_at ts phrases depth (tightness of.Assignment) s) _ (expression depth (tightness of.Assignment) s) (λ f. stays f.1.scope)
 
   initialisers : (inner : Reading Initialiser) → ((s : State) → Grown s.scope (inner s)) → (n : ℕ) (found : List Initialiser) (s : State) →
       Grown s.scope (i.initialisers ts phrases inner n found s)
@@ -126,71 +130,71 @@ module _ (text : List ℕ) (ts : List Token) (phrases : ℕ → Readers) (exact 
   initialiser zero s = either s.scope (mark_at ts s.at mark.LeftBrace) None (i.value ts phrases zero s) tt (value zero s)
   initialiser (suc depth) s = either s.scope (mark_at ts s.at mark.LeftBrace) _ _ (braces (i.initialiser ts phrases depth) (initialiser depth) s) (value (suc depth) s)
 
-  given : (depth : ℕ) (s : State) → Grown s.scope (i.given ts phrases depth s)
-  unfolding i.given
-  given depth s = either s.scope (mark_at ts s.at mark.Equal) _ _
+  initialiser_after : (depth : ℕ) (s : State) → Grown s.scope (i.initialiser_after ts phrases depth s)
+  unfolding i.initialiser_after
+  initialiser_after depth s = either s.scope (mark_at ts s.at mark.Equal) _ _
       (bind s.scope (i.initialiser ts phrases depth (past s 1)) _ (initialiser depth (past s 1)) (λ f. stays f.1.scope)) (stays s.scope)
 
-  initialised : (depth : ℕ) (what : Use) (from : ℕ) (f : Declared × State) → Grown f.1.scope (i.initialised ts phrases depth what from f)
-  unfolding i.initialised
-  initialised depth what from f = bind f.1.scope (i.given ts phrases depth (declare f.1 f.0.1 what)) _
-      (later f.1.scope ((f.0.1, what) ∷ f.1.scope) (i.given ts phrases depth (declare f.1 f.0.1 what)) (declared_more f.1.scope (f.0.1, what)) (given depth (declare f.1 f.0.1 what)))
+  with_initialiser : (depth : ℕ) (kind : NameKind) (from : ℕ) (f : NamedDeclarator × State) → Grown f.1.scope (i.with_initialiser ts phrases depth kind from f)
+  unfolding i.with_initialiser
+  with_initialiser depth kind from f = bind f.1.scope (i.initialiser_after ts phrases depth (declare f.1 f.0.name kind)) _
+      (later f.1.scope ((f.0.name, kind) ∷ f.1.scope) (i.initialiser_after ts phrases depth (declare f.1 f.0.name kind)) (declared_more f.1.scope (f.0.name, kind)) (initialiser_after depth (declare f.1 f.0.name kind)))
       (λ v. stays v.1.scope)
 
-  init_declarator : (depth : ℕ) (what : Use) (s : State) → Grown s.scope (i.init_declarator ts phrases depth what s)
+  init_declarator : (depth : ℕ) (kind : NameKind) (s : State) → Grown s.scope (i.init_declarator ts phrases depth kind s)
   unfolding i.init_declarator
-  init_declarator depth what s = bind s.scope (i.declarator ts phrases depth s) (i.initialised ts phrases depth what s.at) (declarator depth s) (initialised depth what s.at)
+  init_declarator depth kind s = bind s.scope (i.named_declarator ts phrases depth s) (i.with_initialiser ts phrases depth kind s.at) (named_declarator depth s) (with_initialiser depth kind s.at)
 
-  others : (depth : ℕ) (what : Use) (n : ℕ) (found : List InitDeclarator) (s : State) → Grown s.scope (i.others ts phrases depth what n found s)
-  unfolding i.others
-  others depth what zero found s = tt
-  others depth what (suc n) found s = either s.scope (mark_at ts s.at mark.Comma) _ _
-      (bind s.scope (i.init_declarator ts phrases depth what (past s 1)) _ (init_declarator depth what (past s 1)) (λ next. others depth what n (found ++ next.0 ∷ []) next.1))
+  more_declarators : (depth : ℕ) (kind : NameKind) (n : ℕ) (found : List InitDeclarator) (s : State) → Grown s.scope (i.more_declarators ts phrases depth kind n found s)
+  unfolding i.more_declarators
+  more_declarators depth kind zero found s = tt
+  more_declarators depth kind (suc n) found s = either s.scope (mark_at ts s.at mark.Comma) _ _
+      (bind s.scope (i.init_declarator ts phrases depth kind (past s 1)) _ (init_declarator depth kind (past s 1)) (λ next. more_declarators depth kind n (found ++ next.0 ∷ []) next.1))
       (either s.scope (mark_at ts s.at mark.Semicolon) _ _ (stays s.scope) tt)
 
-  init_declarators : (depth : ℕ) (what : Use) (from : ℕ) (f : Declared × State) → Grown f.1.scope (i.init_declarators ts phrases depth what from f)
+  init_declarators : (depth : ℕ) (kind : NameKind) (from : ℕ) (f : NamedDeclarator × State) → Grown f.1.scope (i.init_declarators ts phrases depth kind from f)
   unfolding i.init_declarators
-  init_declarators depth what from f = bind f.1.scope (i.initialised ts phrases depth what from f) _ (initialised depth what from f)
-      (λ first. others depth what (length ts) (first.0 ∷ []) first.1)
+  init_declarators depth kind from f = bind f.1.scope (i.with_initialiser ts phrases depth kind from f) _ (with_initialiser depth kind from f)
+      (λ first. more_declarators depth kind (length ts) (first.0 ∷ []) first.1)
 
-  with_names : (depth start : ℕ) (specs : Specs) (roles : List Role) (from : ℕ) (f : Declared × State) → Grown f.1.scope (i.with_names ts phrases depth start specs roles from f)
-  unfolding i.with_names
-  with_names depth start specs roles from f = bind f.1.scope (i.init_declarators ts phrases depth (use_of roles) from f) _ (init_declarators depth (use_of roles) from f) (λ all. stays all.1.scope)
+  declaration_of_names : (depth start : ℕ) (specs : Specs) (roles : List Role) (from : ℕ) (f : NamedDeclarator × State) → Grown f.1.scope (i.declaration_of_names ts phrases depth start specs roles from f)
+  unfolding i.declaration_of_names
+  declaration_of_names depth start specs roles from f = bind f.1.scope (i.init_declarators ts phrases depth (declared_kind roles) from f) _ (init_declarators depth (declared_kind roles) from f) (λ all. stays all.1.scope)
 
   declaration : (depth : ℕ) (s : State) → Grown s.scope (i.declaration ts phrases depth s)
   unfolding i.declaration
   declaration depth s = bind s.scope ((phrases depth).specs s) _ (read_specs depth s) (λ f.
       either f.1.scope (mark_at ts f.1.at mark.Semicolon) _ _ (stays f.1.scope)
-      (bind f.1.scope (i.declarator ts phrases depth f.1) (i.with_names ts phrases depth s.at f.0.0 f.0.1 f.1.at) (declarator depth f.1) (with_names depth s.at f.0.0 f.0.1 f.1.at)))
+      (bind f.1.scope (i.named_declarator ts phrases depth f.1) (i.declaration_of_names ts phrases depth s.at f.0.0 f.0.1 f.1.at) (named_declarator depth f.1) (declaration_of_names depth s.at f.0.0 f.0.1 f.1.at)))
 
   module _ (depth : ℕ) where
-    closed : (level : ℕ) (m : Mark) (s : State) → Grown s.scope (st.closed text ts phrases depth level m s)
-    unfolding st.closed
-    closed level m s = bind s.scope (i.expression ts phrases depth level s) _ (expression depth level s)
+    expression_before : (level : ℕ) (m : Mark) (s : State) → Grown s.scope (st.expression_before text ts phrases depth level m s)
+    unfolding st.expression_before
+    expression_before level m s = bind s.scope (i.expression_at ts phrases depth level s) _ (expression depth level s)
         (λ f. either f.1.scope (mark_at ts f.1.at m) _ _ (stays f.1.scope) tt)
 
-    pub optional : (m : Mark) (s : State) → Grown s.scope (st.optional text ts phrases depth m s)
-    unfolding st.optional
-    optional m s = either s.scope (mark_at ts s.at m) _ _ (stays s.scope)
-        (bind s.scope (st.closed text ts phrases depth any m s) _ (closed any m s) (λ f. stays f.1.scope))
+    pub optional_before : (m : Mark) (s : State) → Grown s.scope (st.optional_before text ts phrases depth m s)
+    unfolding st.optional_before
+    optional_before m s = either s.scope (mark_at ts s.at m) _ _ (stays s.scope)
+        (bind s.scope (st.expression_before text ts phrases depth (tightness of.Comma) m s) _ (expression_before (tightness of.Comma) m s) (λ f. stays f.1.scope))
 
     pub condition : (s : State) → Grown s.scope (st.condition text ts phrases depth s)
     unfolding st.condition
-    condition s = either s.scope (mark_at ts (s.at + 1) mark.LeftParen) _ _ (closed any mark.RightParen (past s 2)) tt
+    condition s = either s.scope (mark_at ts (s.at + 1) mark.LeftParen) _ _ (expression_before (tightness of.Comma) mark.RightParen (past s 2)) tt
 
     pub for_start : (s : State) → Grown s.scope (st.for_start text ts phrases depth s)
     unfolding st.for_start
     for_start s = either s.scope (begins_specs text ts s.scope s.at) _ _
         (bind s.scope (i.declaration ts phrases depth s) _ (declaration depth s) (λ f. stays f.1.scope))
-        (bind s.scope (st.optional text ts phrases depth mark.Semicolon s) _ (optional mark.Semicolon s) (λ f. stays f.1.scope))
+        (bind s.scope (st.optional_before text ts phrases depth mark.Semicolon s) _ (optional_before mark.Semicolon s) (λ f. stays f.1.scope))
 
     pub for_header : (s : State) → Grown s.scope (h.for_header text ts phrases depth s)
-    unfolding h.for_header h.controls
+    unfolding h.for_header h.for_controls
     for_header s = either s.scope (mark_at ts (s.at + 1) mark.LeftParen) _ _
         (bind s.scope (st.for_start text ts phrases depth (past s 2)) _ (for_start (past s 2)) (λ start.
-        bind start.1.scope (h.controls text ts phrases depth start.1) _
-        (bind start.1.scope (st.optional text ts phrases depth mark.Semicolon start.1) _ (optional mark.Semicolon start.1) (λ test.
-        bind test.1.scope (st.optional text ts phrases depth mark.RightParen test.1) _ (optional mark.RightParen test.1) (λ step. stays step.1.scope)))
+        bind start.1.scope (h.for_controls text ts phrases depth start.1) _
+        (bind start.1.scope (st.optional_before text ts phrases depth mark.Semicolon start.1) _ (optional_before mark.Semicolon start.1) (λ test.
+        bind test.1.scope (st.optional_before text ts phrases depth mark.RightParen test.1) _ (optional_before mark.RightParen test.1) (λ step. stays step.1.scope)))
         (λ rest. stays rest.1.scope))) tt
 
     module _ (inner : Reading Statement) (g : (s : State) → Grown s.scope (inner s)) where
@@ -212,7 +216,7 @@ module _ (text : List ℕ) (ts : List Token) (phrases : ℕ → Readers) (exact 
         (anyway s.scope (st.items text ts phrases depth inner (length ts) [] (past s 1)) _ (λ f. stays s.scope)) tt
 
     by_word : (inner : Reading Statement) (block : Reading Block) (s : State) (kind : Option Kind) → Grown s.scope (st.statement_by text ts phrases depth inner block s kind)
-    unfolding st.whole_block st.selected st.otherwise st.repeated st.done st.counted st.switched st.labelled st.by_itself st.returned st.of_expression
+    unfolding st.block_statement st.if_statement st.else_after st.while_statement st.do_statement st.for_statement st.switch_statement st.case_label st.word_before st.return_statement st.expression_statement
     by_word inner block s (Some (k.Mark mark.LeftBrace)) = bind s.scope (st.block_of text ts phrases depth inner s) _ (block_of inner s) (λ f. stays f.1.scope)
     by_word inner block s (Some (k.Mark mark.Semicolon)) = stays s.scope
     by_word inner block s (Some (k.Word word.If)) = anyway s.scope (st.condition text ts phrases depth s) _ (λ test. anyway s.scope (inner test.1) _ (λ first.
@@ -221,16 +225,16 @@ module _ (text : List ℕ) (ts : List Token) (phrases : ℕ → Readers) (exact 
     by_word inner block s (Some (k.Word word.Do)) = anyway s.scope (inner (past s 1)) _ (λ body. either s.scope (word_at ts body.1.at word.While) _ _
         (anyway s.scope (st.condition text ts phrases depth (back s body.1)) _ (λ test. either s.scope (mark_at ts test.1.at mark.Semicolon) _ _ (stays s.scope) tt)) tt)
     by_word inner block s (Some (k.Word word.For)) = either s.scope (mark_at ts (s.at + 1) mark.LeftParen) _ _
-        (anyway s.scope (st.for_start text ts phrases depth (past s 2)) _ (λ start. anyway s.scope (st.optional text ts phrases depth mark.Semicolon start.1) _ (λ test.
-        anyway s.scope (st.optional text ts phrases depth mark.RightParen test.1) _ (λ step. anyway s.scope (inner step.1) _ (λ body. stays s.scope))))) tt
+        (anyway s.scope (st.for_start text ts phrases depth (past s 2)) _ (λ start. anyway s.scope (st.optional_before text ts phrases depth mark.Semicolon start.1) _ (λ test.
+        anyway s.scope (st.optional_before text ts phrases depth mark.RightParen test.1) _ (λ step. anyway s.scope (inner step.1) _ (λ body. stays s.scope))))) tt
     by_word inner block s (Some (k.Word word.Switch)) = anyway s.scope (st.condition text ts phrases depth s) _ (λ value. anyway s.scope (block value.1) _ (λ body. stays s.scope))
-    by_word inner block s (Some (k.Word word.Case)) = bind s.scope (st.closed text ts phrases depth conditional mark.Colon (past s 1)) _ (closed conditional mark.Colon (past s 1)) (λ f. stays f.1.scope)
+    by_word inner block s (Some (k.Word word.Case)) = bind s.scope (st.expression_before text ts phrases depth (tightness of.Conditional) mark.Colon (past s 1)) _ (expression_before (tightness of.Conditional) mark.Colon (past s 1)) (λ f. stays f.1.scope)
     by_word inner block s (Some (k.Word word.Default)) = either s.scope (mark_at ts (s.at + 1) mark.Colon) _ _ (stays s.scope) tt
     by_word inner block s (Some (k.Word word.Break)) = either s.scope (mark_at ts (s.at + 1) mark.Semicolon) _ _ (stays s.scope) tt
     by_word inner block s (Some (k.Word word.Continue)) = either s.scope (mark_at ts (s.at + 1) mark.Semicolon) _ _ (stays s.scope) tt
     by_word inner block s (Some (k.Word word.Return)) =
-        bind s.scope (st.optional text ts phrases depth mark.Semicolon (past s 1)) _ (optional mark.Semicolon (past s 1)) (λ f. stays f.1.scope)
-    by_word inner block s _ = bind s.scope (st.closed text ts phrases depth any mark.Semicolon s) _ (closed any mark.Semicolon s) (λ f. stays f.1.scope)
+        bind s.scope (st.optional_before text ts phrases depth mark.Semicolon (past s 1)) _ (optional_before mark.Semicolon (past s 1)) (λ f. stays f.1.scope)
+    by_word inner block s _ = bind s.scope (st.expression_before text ts phrases depth (tightness of.Comma) mark.Semicolon s) _ (expression_before (tightness of.Comma) mark.Semicolon s) (λ f. stays f.1.scope)
 
   pub statement : (depth : ℕ) (s : State) → Grown s.scope (st.statement text ts phrases depth s)
   unfolding st.statement

@@ -77,72 +77,72 @@ module _ (text : List ℕ) (ts : List Token) (phrases : ℕ → Readers) where
     abbrev for_rest : State → Header × State → Option (Statement × State)
     for_rest s x = inner x.1 >>= λ body. Some (node.For (place_at ts s.at) x.0.0 x.0.1 x.0.2 body.0, back s body.1)
 
-    counted_by : (s : State) → (h.for_header text ts phrases depth s >>= for_rest s) ≡ step.counted text ts phrases depth inner s
-    unfolding h.for_header h.controls step.counted
-    counted_by s =
+    for_statement_by : (s : State) → (h.for_header text ts phrases depth s >>= for_rest s) ≡ step.for_statement text ts phrases depth inner s
+    unfolding h.for_header h.for_controls step.for_statement
+    for_statement_by s =
         if_bind (mark_at ts (s.at + 1) mark.LeftParen) _ (for_rest s) ∙
         ap (λ (a : Option (Statement × State)). if mark_at ts (s.at + 1) mark.LeftParen then a else None)
         (bind_bind (step.for_start text ts phrases depth (past s 2)) _ (for_rest s) ∙
         bind_same (step.for_start text ts phrases depth (past s 2)) _ _ (λ start.
-        bind_bind (h.controls text ts phrases depth start.1) _ (for_rest s) ∙
-        bind_bind (step.optional text ts phrases depth mark.Semicolon start.1) _ _ ∙
-        bind_same (step.optional text ts phrases depth mark.Semicolon start.1) _ _ (λ test.
-        bind_bind (step.optional text ts phrases depth mark.RightParen test.1) _ _)))
+        bind_bind (h.for_controls text ts phrases depth start.1) _ (for_rest s) ∙
+        bind_bind (step.optional_before text ts phrases depth mark.Semicolon start.1) _ _ ∙
+        bind_same (step.optional_before text ts phrases depth mark.Semicolon start.1) _ _ (λ test.
+        bind_bind (step.optional_before text ts phrases depth mark.RightParen test.1) _ _)))
 
-    pub counted-headless : (s : State) → h.for_header text ts phrases depth s ≡ None → step.counted text ts phrases depth inner s ≡ None
-    counted-headless s a = sym (counted_by s) ∙ ap (λ (l : Option (Header × State)). l >>= for_rest s) a
+    pub for_statement-headless : (s : State) → h.for_header text ts phrases depth s ≡ None → step.for_statement text ts phrases depth inner s ≡ None
+    for_statement-headless s a = sym (for_statement_by s) ∙ ap (λ (l : Option (Header × State)). l >>= for_rest s) a
 
-    pub counted-none : (s t : State) (x : Header) → h.for_header text ts phrases depth s ≡ Some (x, t) → inner t ≡ None →
-        step.counted text ts phrases depth inner s ≡ None
-    counted-none s t x a b = sym (counted_by s) ∙ ap (λ (l : Option (Header × State)). l >>= for_rest s) a ∙
+    pub for_statement-none : (s t : State) (x : Header) → h.for_header text ts phrases depth s ≡ Some (x, t) → inner t ≡ None →
+        step.for_statement text ts phrases depth inner s ≡ None
+    for_statement-none s t x a b = sym (for_statement_by s) ∙ ap (λ (l : Option (Header × State)). l >>= for_rest s) a ∙
         ap (λ (l : Option (Statement × State)). l >>= λ body. Some (node.For (place_at ts s.at) x.0 x.1 x.2 body.0, back s body.1)) b
 
-    pub counted-found : (s t u : State) (x : Header) (y : Statement) → h.for_header text ts phrases depth s ≡ Some (x, t) → inner t ≡ Some (y, u) →
-        step.counted text ts phrases depth inner s ≡ Some (node.For (place_at ts s.at) x.0 x.1 x.2 y, back s u)
-    counted-found s t u x y a b = sym (counted_by s) ∙ ap (λ (l : Option (Header × State)). l >>= for_rest s) a ∙
+    pub for_statement-found : (s t u : State) (x : Header) (y : Statement) → h.for_header text ts phrases depth s ≡ Some (x, t) → inner t ≡ Some (y, u) →
+        step.for_statement text ts phrases depth inner s ≡ Some (node.For (place_at ts s.at) x.0 x.1 x.2 y, back s u)
+    for_statement-found s t u x y a b = sym (for_statement_by s) ∙ ap (λ (l : Option (Header × State)). l >>= for_rest s) a ∙
         ap (λ (l : Option (Statement × State)). l >>= λ body. Some (node.For (place_at ts s.at) x.0 x.1 x.2 body.0, back s body.1)) b
 
-    pub done-bodiless : (s a : State) → a ≡ past s 1 → inner a ≡ None → step.done text ts phrases depth inner s ≡ None
-    unfolding step.done
-    done-bodiless s a e f = let f1 : inner (past s 1) ≡ None = ap inner (sym e) ∙ f in rw f1 refl
+    pub do_statement-bodiless : (s a : State) → a ≡ past s 1 → inner a ≡ None → step.do_statement text ts phrases depth inner s ≡ None
+    unfolding step.do_statement
+    do_statement-bodiless s a e f = let f1 : inner (past s 1) ≡ None = ap inner (sym e) ∙ f in rw f1 refl
 
-    pub done-wordless : (s a b : State) (x : Statement) → a ≡ past s 1 → inner a ≡ Some (x, b) → word_at ts b.at word.While ≡ false →
-        step.done text ts phrases depth inner s ≡ None
-    unfolding step.done
-    done-wordless s a b x e f w = let f1 : inner (past s 1) ≡ Some (x, b) = ap inner (sym e) ∙ f in rw (f1, w) refl
+    pub do_statement-wordless : (s a b : State) (x : Statement) → a ≡ past s 1 → inner a ≡ Some (x, b) → word_at ts b.at word.While ≡ false →
+        step.do_statement text ts phrases depth inner s ≡ None
+    unfolding step.do_statement
+    do_statement-wordless s a b x e f w = let f1 : inner (past s 1) ≡ Some (x, b) = ap inner (sym e) ∙ f in rw (f1, w) refl
 
-    pub done-testless : (s a b c : State) (x : Statement) → a ≡ past s 1 → inner a ≡ Some (x, b) → word_at ts b.at word.While ≡ true → c ≡ back s b →
-        step.condition text ts phrases depth c ≡ None → step.done text ts phrases depth inner s ≡ None
-    unfolding step.done
-    done-testless s a b c x e f w h t =
+    pub do_statement-testless : (s a b c : State) (x : Statement) → a ≡ past s 1 → inner a ≡ Some (x, b) → word_at ts b.at word.While ≡ true → c ≡ back s b →
+        step.condition text ts phrases depth c ≡ None → step.do_statement text ts phrases depth inner s ≡ None
+    unfolding step.do_statement
+    do_statement-testless s a b c x e f w h t =
         let f1 : inner (past s 1) ≡ Some (x, b) = ap inner (sym e) ∙ f in
         let t1 : step.condition text ts phrases depth (back s b) ≡ None = ap (step.condition text ts phrases depth) (sym h) ∙ t in
         rw (f1, w, t1) refl
 
-    pub done-open : (s a b c d : State) (x : Statement) (y : Expression) → a ≡ past s 1 → inner a ≡ Some (x, b) → word_at ts b.at word.While ≡ true → c ≡ back s b →
-        step.condition text ts phrases depth c ≡ Some (y, d) → mark_at ts d.at mark.Semicolon ≡ false → step.done text ts phrases depth inner s ≡ None
-    unfolding step.done
-    done-open s a b c d x y e f w h t m =
+    pub do_statement-open : (s a b c d : State) (x : Statement) (y : Expression) → a ≡ past s 1 → inner a ≡ Some (x, b) → word_at ts b.at word.While ≡ true → c ≡ back s b →
+        step.condition text ts phrases depth c ≡ Some (y, d) → mark_at ts d.at mark.Semicolon ≡ false → step.do_statement text ts phrases depth inner s ≡ None
+    unfolding step.do_statement
+    do_statement-open s a b c d x y e f w h t m =
         let f1 : inner (past s 1) ≡ Some (x, b) = ap inner (sym e) ∙ f in
         let t1 : step.condition text ts phrases depth (back s b) ≡ Some (y, d) = ap (step.condition text ts phrases depth) (sym h) ∙ t in
         rw (f1, w, t1, m) refl
 
-    pub done-found : (s a b c d : State) (x : Statement) (y : Expression) → a ≡ past s 1 → inner a ≡ Some (x, b) → word_at ts b.at word.While ≡ true → c ≡ back s b →
+    pub do_statement-found : (s a b c d : State) (x : Statement) (y : Expression) → a ≡ past s 1 → inner a ≡ Some (x, b) → word_at ts b.at word.While ≡ true → c ≡ back s b →
         step.condition text ts phrases depth c ≡ Some (y, d) → mark_at ts d.at mark.Semicolon ≡ true →
-        step.done text ts phrases depth inner s ≡ Some (node.Do (place_at ts s.at) x y, back s (past d 1))
-    unfolding step.done
-    done-found s a b c d x y e f w h t m =
+        step.do_statement text ts phrases depth inner s ≡ Some (node.Do (place_at ts s.at) x y, back s (past d 1))
+    unfolding step.do_statement
+    do_statement-found s a b c d x y e f w h t m =
         let f1 : inner (past s 1) ≡ Some (x, b) = ap inner (sym e) ∙ f in
         let t1 : step.condition text ts phrases depth (back s b) ≡ Some (y, d) = ap (step.condition text ts phrases depth) (sym h) ∙ t in
         rw (f1, w, t1, m) refl
 
-    pub selected-none : (s t b a : State) (x : Expression) (y : Statement) → step.condition text ts phrases depth s ≡ Some (x, t) → inner t ≡ Some (y, b) →
-        word_at ts b.at word.Else ≡ true → a ≡ past (back t b) 1 → inner a ≡ None → step.selected text ts phrases depth inner s ≡ None
-    unfolding step.selected step.otherwise
-    selected-none s t b a x y e f w h i = let i1 : inner (past (back t b) 1) ≡ None = ap inner (sym h) ∙ i in rw (e, f, w, i1) refl
+    pub if_statement-none : (s t b a : State) (x : Expression) (y : Statement) → step.condition text ts phrases depth s ≡ Some (x, t) → inner t ≡ Some (y, b) →
+        word_at ts b.at word.Else ≡ true → a ≡ past (back t b) 1 → inner a ≡ None → step.if_statement text ts phrases depth inner s ≡ None
+    unfolding step.if_statement step.else_after
+    if_statement-none s t b a x y e f w h i = let i1 : inner (past (back t b) 1) ≡ None = ap inner (sym h) ∙ i in rw (e, f, w, i1) refl
 
-    pub selected-both : (s t b a d : State) (x : Expression) (y z : Statement) → step.condition text ts phrases depth s ≡ Some (x, t) → inner t ≡ Some (y, b) →
+    pub if_statement-both : (s t b a d : State) (x : Expression) (y z : Statement) → step.condition text ts phrases depth s ≡ Some (x, t) → inner t ≡ Some (y, b) →
         word_at ts b.at word.Else ≡ true → a ≡ past (back t b) 1 → inner a ≡ Some (z, d) →
-        step.selected text ts phrases depth inner s ≡ Some (node.IfElse (place_at ts s.at) x y z, back s d)
-    unfolding step.selected step.otherwise
-    selected-both s t b a d x y z e f w h i = let i1 : inner (past (back t b) 1) ≡ Some (z, d) = ap inner (sym h) ∙ i in rw (e, f, w, i1) refl
+        step.if_statement text ts phrases depth inner s ≡ Some (node.IfElse (place_at ts s.at) x y z, back s d)
+    unfolding step.if_statement step.else_after
+    if_statement-both s t b a d x y z e f w h i = let i1 : inner (past (back t b) 1) ≡ Some (z, d) = ap inner (sym h) ∙ i in rw (e, f, w, i1) refl

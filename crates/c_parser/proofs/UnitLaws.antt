@@ -1,38 +1,36 @@
--- What is found is what is derived, and nothing else.
-use Rattle.std.proofs.Common.{◌≡◌, ◌≤◌, ◌+◌, ◌*◌, ◌↔◌, ℕ, List, Option, Some, Err, refl, ap, alloc_error, arith}
-use Rattle.c_grammar.specs.declared.units.External.{External}
-use Rattle.c_grammar.specs.declared.units.Unit.{Unit as Tree}
+-- What is found, with the texts of the tokens, is what is derived, and nothing else.
+use Rattle.std.proofs.Common.{◌≡◌, ◌≤◌, ◌+◌, ◌*◌, ◌↔◌, ℕ, Option, Some, None, Result, Ok, Err, refl, ap, ◌∙◌, sym, subst, alloc_error, arith}
+use Rattle.c_tokens.specs.Limits.{max_tokens}
+use Rattle.c_grammar.specs.Limits.{max_nodes}
+use Rattle.token_texts.specs.Texts.{Texts}
 use Rattle.token_reader.specs.declared.error.ParseError.{ParseError}
 use Rattle.token_reader.specs.declared.error.ParseError.TheVariants.{Memory, Syntax}
+use Rattle.token_reader.specs.Refused.{IsSameButToken}
 use Rattle.c_parser.specs.Answers.{Answers}
 
--- What is found is the one thing that has the property.
-module _ {A : Type 0} (answer : Option A) (Has : A → Type 0) (law : (x : A) → (answer ≡ Some x) ↔ Has x) where
-  pub only_one : (x : A) → answer ≡ Some x → (y : A) → Has y → x ≡ y
-  only_one x h y has = let other : answer ≡ Some y = (law y).1 has in cc
+-- A whole has a part, which is what is found, and texts. It has the property where both are right.
+module _ {Part Whole : Type 0} (make : Part → Texts → Whole) (part : Whole → Part) (texts : Whole → Texts) (made : (w : Whole) → make (part w) (texts w) ≡ w)
+    (answer : Option Part) (Are : Texts → Type 0) (Has : Whole → Type 0) (law : (w : Whole) → ((answer ≡ Some (part w)) × Are (texts w)) ↔ Has w) where
+  pub only_one : ((a b : Texts) → Are a → Are b → a ≡ b) → (p : Part) (t : Texts) → answer ≡ Some p → Are t → (w : Whole) → Has w → make p t ≡ w
+  only_one one p t h are w has =
+      let both = (law w).1 has in
+      let other : answer ≡ Some (part w) = both.0 in
+      let same : p ≡ part w = cc in
+      ap (λ x. make x t) same ∙ ap (λ y. make (part w) y) (one t (texts w) are both.1) ∙ made w
 
-  pub only_memory : (e : ParseError) → Answers {A = A} (Err e) answer → (y : A) → Has y → e ≡ Memory alloc_error
-  only_memory (Memory a) h y has = refl
-  only_memory (Syntax at) h y has = let other : answer ≡ Some y = (law y).1 has in let none = h at refl in absurd cc
+  pub only_memory : (e : ParseError) → Answers {A = Part} (Err e) answer → (w : Whole) → Has w → e ≡ Memory alloc_error
+  only_memory (Memory a) h w has = refl
+  only_memory (Syntax at) h w has = let other : answer ≡ Some (part w) = ((law w).1 has).0 in let none = h at refl in absurd cc
 
-  pub none_has : (e : ParseError) → Answers {A = A} (Err e) answer → (at : ℕ) → e ≡ Syntax at → (y : A) → Has y → ⊥
-  none_has e h at is y has = let other : answer ≡ Some y = (law y).1 has in let none = h at is in cc
+  pub none_has : (e : ParseError) → Answers {A = Part} (Err e) answer → (at : ℕ) → e ≡ Syntax at → (w : Whole) → Has w → ⊥
+  none_has e h at is w has = let other : answer ≡ Some (part w) = ((law w).1 has).0 in let none = h at is in cc
 
--- The same of units, whose declarations and functions are what is found.
-module _ (answer : Option (List External)) (Has : Tree → Type 0) (law : (x : Tree) → (answer ≡ Some x.items) ↔ Has x) where
-  same_unit : (items : List External) (unit : Tree) → items ≡ unit.items → record { items = items } ≡ unit
-  same_unit items unit e = ap (λ (l : List External). let made : Tree = record { items = l } in made) e
-
-  pub only_unit : (items : List External) → answer ≡ Some items → (unit : Tree) → Has unit → record { items = items } ≡ unit
-  only_unit items h unit has = let other : answer ≡ Some unit.items = (law unit).1 has in let e : items ≡ unit.items = cc in same_unit items unit e
-
-  pub memory_unit : (e : ParseError) → Answers {A = List External} (Err e) answer → (unit : Tree) → Has unit → e ≡ Memory alloc_error
-  memory_unit (Memory a) h unit has = refl
-  memory_unit (Syntax at) h unit has = let other : answer ≡ Some unit.items = (law unit).1 has in let none = h at refl in absurd cc
-
-  pub none_unit : (e : ParseError) → Answers {A = List External} (Err e) answer → (at : ℕ) → e ≡ Syntax at → (unit : Tree) → Has unit → ⊥
-  none_unit e h at is unit has = let other : answer ≡ Some unit.items = (law unit).1 has in let none = h at is in absurd cc
+-- the same is answered where a refusal names another token
+pub same_answers : {A : Type 0} (r s : Result A ParseError) (answer : Option A) → IsSameButToken r s → Answers r answer → Answers s answer
+same_answers (Ok x) s answer e h = subst (λ (t : Result _ ParseError). Answers t answer) (sym e) h
+same_answers (Err (Memory m)) s answer e h = subst (λ (t : Result _ ParseError). Answers t answer) (sym e) h
+same_answers (Err (Syntax n)) s answer e h = subst (λ (t : Result _ ParseError). Answers t answer) (sym e.1) (λ at is. h n refl)
 
 -- so many tokens have few nodes
-pub few_nodes : (nodes tokens : ℕ) → nodes ≤ 2 * tokens + 1 → tokens ≤ 200000 → nodes ≤ 2000000
+pub few_nodes : (nodes tokens : ℕ) → nodes ≤ 2 * tokens + 1 → tokens ≤ max_tokens → nodes ≤ max_nodes
 few_nodes nodes tokens bound few = omega arith

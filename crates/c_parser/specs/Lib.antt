@@ -1,4 +1,6 @@
 pub mod Answers
-pub mod Closing
+pub mod ListEnd
+pub mod Named
 pub mod NestsStatements
+pub mod Refused
 pub mod ForHeader

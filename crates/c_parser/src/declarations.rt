@@ -1,32 +1,38 @@
 //! Declarations (C11 6.7).
 
 ghost use Rattle.std.specs.Prelude.{◌≤◌, ◌∷◌, [], length};
+ghost use Rattle.c_tokens.specs.Limits.{max_tokens};
+ghost use Rattle.c_grammar.specs.Limits.{max_depth};
 ghost use Rattle.grammar_descent.specs.AllReaders.{readers};
 ghost use Rattle.grammar_descent.specs.InitialiserSteps as step;
 ghost use Rattle.token_reader.specs.Input.{Reads};
-ghost use Rattle.token_reader.specs.Uses.{as_use};
+ghost use Rattle.c_parser.specs.Named.{ReadsNamed, HasSpelling, spelled_named};
 
 use crate::initialisers::initialiser;
 use crate::phrases;
-use c_grammar::{Declaration, Declarator, InitDeclarator, Initialiser};
+use c_grammar::{Declaration, Declarator, InitDeclarator, Initialiser, NameKind, Naming};
 use c_tokens::Mark;
-use c_types::Text;
 use sqlite_items::Items;
 use std::alloc::Global;
-use token_reader::{Naming, Own, ParseError, Reader, Use};
+use token_reader::{ParameterNames, ParseError, Reader};
 
-/// A declarator, the name that it declares, and what the first list of parameters behind the name declares.
-pub type Declared = (Declarator, Text, Option<Own>);
+/// A declarator, the number of the name that it declares, and what the first list of parameters after the name declares.
+#[derive(Debug, Drop)]
+pub struct NamedDeclarator {
+    pub node: Declarator,
+    pub name: u32,
+    pub own: Option<ParameterNames>,
+}
 
 /// `= initialiser`, or nothing.
-#[tactic(auto, unfolding(grammar_descent::specs::InitialiserSteps::given))]
-fn given(
+#[tactic(auto, unfolding(grammar_descent::specs::InitialiserSteps::initialiser_after))]
+fn initialiser_after(
     alloc: Global,
     reader: &mut Reader<'_>,
     depth: u32,
 ) -> Result<Option<Initialiser>, ParseError>
-    requires { depth ≤ 200 }
-    ensures { Reads (λ text ts. step.given ts (readers text ts) depth) reader.old result reader.new }
+    requires { depth ≤ max_depth }
+    ensures { Reads (λ text ts. step.initialiser_after ts (readers text ts) depth) reader.old result reader.new }
 {
     if !reader.sees_mark(Mark::Equal) {
         return Ok(None);
@@ -36,43 +42,47 @@ fn given(
 }
 
 /// A declarator that has a name.
-#[tactic(auto, unfolding(grammar_descent::specs::InitialiserSteps::declarator))]
-pub fn declarator(
+#[tactic(auto, unfolding(grammar_descent::specs::InitialiserSteps::named_declarator))]
+pub fn named_declarator(
     alloc: Global,
     reader: &mut Reader<'_>,
     depth: u32,
-) -> Result<Declared, ParseError>
-    requires { depth ≤ 200 }
-    ensures { Reads (λ text ts. step.declarator ts (readers text ts) depth) reader.old result reader.new }
+) -> Result<NamedDeclarator, ParseError>
+    requires { depth ≤ max_depth }
+    ensures { ReadsNamed (λ text ts. step.named_declarator ts (readers text ts) depth) reader.old result reader.new }
 {
-    let (declarator, name, own, _) = phrases::declarator(alloc, reader, depth, Naming::Named)?;
-    match name {
-        Some(name) => Ok((declarator, name, own)),
+    let found = phrases::declarator(alloc, reader, depth, Naming::Named)?;
+    match found.name {
+        Some(name) => Ok(NamedDeclarator {
+            node: found.node,
+            name,
+            own: found.own,
+        }),
         None => Err(reader.refuse()),
     }
 }
 
 /// What is declared with the declarator that was read from the token `from` on. Its name is in scope in its own initialiser (C11 6.2.1p7).
-#[tactic(auto, unfolding(grammar_descent::specs::InitialiserSteps::initialised))]
-fn initialised(
+#[tactic(auto, unfolding(grammar_descent::specs::InitialiserSteps::with_initialiser))]
+fn with_initialiser(
     alloc: Global,
     reader: &mut Reader<'_>,
     depth: u32,
-    what: Use,
+    kind: NameKind,
     from: usize,
-    declared: Declared,
+    declared: NamedDeclarator,
 ) -> Result<InitDeclarator, ParseError>
-    requires small { depth ≤ 200 }
-    requires place { from ≤ 200000 }
-    ensures { Reads (λ text ts s. step.initialised ts (readers text ts) depth (as_use what) from (declared, s)) reader.old result reader.new }
+    requires small { depth ≤ max_depth }
+    requires place { from ≤ max_tokens }
+    requires spelled { HasSpelling reader.old.texts declared }
+    ensures { Reads (λ text ts s. step.with_initialiser ts (readers text ts) depth kind from (spelled_named reader.old.texts declared, s)) reader.old result reader.new }
 {
-    let (declarator, name, _) = declared;
     let place = reader.place_at(from);
-    reader.declare(alloc, name.bytes(), what)?;
-    let value = given(alloc, reader, depth)?;
+    reader.declare(declared.name, kind)?;
+    let value = initialiser_after(alloc, reader, depth)?;
     Ok(InitDeclarator {
         place,
-        declarator,
+        declarator: declared.node,
         value,
     })
 }
@@ -82,33 +92,33 @@ fn init_declarator(
     alloc: Global,
     reader: &mut Reader<'_>,
     depth: u32,
-    what: Use,
+    kind: NameKind,
 ) -> Result<InitDeclarator, ParseError>
-    requires { depth ≤ 200 }
-    ensures { Reads (λ text ts. step.init_declarator ts (readers text ts) depth (as_use what)) reader.old result reader.new }
+    requires { depth ≤ max_depth }
+    ensures { Reads (λ text ts. step.init_declarator ts (readers text ts) depth kind) reader.old result reader.new }
 {
     let from = reader.at();
-    let declared = declarator(alloc, reader, depth)?;
-    initialised(alloc, reader, depth, what, from, declared)
+    let declared = named_declarator(alloc, reader, depth)?;
+    with_initialiser(alloc, reader, depth, kind, from, declared)
 }
 
-/// Behind the first of them: the others, and the semicolon.
-fn others(
+/// After the first of them: the others, and the semicolon.
+fn more_declarators(
     alloc: Global,
     reader: &mut Reader<'_>,
     depth: u32,
-    what: Use,
+    kind: NameKind,
     first: InitDeclarator,
 ) -> Result<Items<InitDeclarator>, ParseError>
-    requires { depth ≤ 200 }
-    ensures { Reads (λ text ts. step.others ts (readers text ts) depth (as_use what) (length ts) (first ∷ [])) reader.old result reader.new }
+    requires { depth ≤ max_depth }
+    ensures { Reads (λ text ts. step.more_declarators ts (readers text ts) depth kind (length ts) (first ∷ [])) reader.old result reader.new }
 {
     let mut found = Items::new(alloc);
     found.push(first)?;
     for _turn in 0..reader.tokens_len() {
         if reader.sees_mark(Mark::Comma) {
             reader.pass(1);
-            found.push(init_declarator(alloc, reader, depth, what)?)?;
+            found.push(init_declarator(alloc, reader, depth, kind)?)?;
         } else {
             reader.expect(Mark::Semicolon)?;
             return Ok(found);
@@ -123,44 +133,45 @@ pub fn init_declarators(
     alloc: Global,
     reader: &mut Reader<'_>,
     depth: u32,
-    what: Use,
+    kind: NameKind,
     from: usize,
-    first: Declared,
+    first: NamedDeclarator,
 ) -> Result<Items<InitDeclarator>, ParseError>
-    requires small { depth ≤ 200 }
-    requires place { from ≤ 200000 }
-    ensures { Reads (λ text ts s. step.init_declarators ts (readers text ts) depth (as_use what) from (first, s)) reader.old result reader.new }
+    requires small { depth ≤ max_depth }
+    requires place { from ≤ max_tokens }
+    requires spelled { HasSpelling reader.old.texts first }
+    ensures { Reads (λ text ts s. step.init_declarators ts (readers text ts) depth kind from (spelled_named reader.old.texts first, s)) reader.old result reader.new }
 {
-    let first = initialised(alloc, reader, depth, what, from, first)?;
-    others(alloc, reader, depth, what, first)
+    let first = with_initialiser(alloc, reader, depth, kind, from, first)?;
+    more_declarators(alloc, reader, depth, kind, first)
 }
 
 /// A declaration, also one without declarators.
-#[tactic(auto, unfolding(grammar_descent::specs::InitialiserSteps::declaration, grammar_descent::specs::InitialiserSteps::with_names))]
+#[tactic(auto, unfolding(grammar_descent::specs::InitialiserSteps::declaration, grammar_descent::specs::InitialiserSteps::declaration_of_names))]
 pub fn declaration(
     alloc: Global,
     reader: &mut Reader<'_>,
     depth: u32,
 ) -> Result<Declaration, ParseError>
-    requires { depth ≤ 200 }
+    requires { depth ≤ max_depth }
     ensures { Reads (λ text ts. step.declaration ts (readers text ts) depth) reader.old result reader.new }
 {
     let place = reader.place();
-    let (specs, what, _) = phrases::specs(alloc, reader, depth)?;
+    let specs = phrases::specs(alloc, reader, depth)?;
     if reader.sees_mark(Mark::Semicolon) {
         reader.pass(1);
         return Ok(Declaration {
             place,
-            specs,
+            specs: specs.node,
             declarators: Items::new(alloc),
         });
     }
     let from = reader.at();
-    let first = declarator(alloc, reader, depth)?;
-    let declarators = init_declarators(alloc, reader, depth, what, from, first)?;
+    let first = named_declarator(alloc, reader, depth)?;
+    let declarators = init_declarators(alloc, reader, depth, specs.kind, from, first)?;
     Ok(Declaration {
         place,
-        specs,
+        specs: specs.node,
         declarators,
     })
 }

@@ -1,29 +1,30 @@
 //! Expressions by themselves, and initialisers (C11 6.7.9).
 
 ghost use Rattle.std.specs.Prelude.{◌≤◌, ◌+◌, [], length};
+ghost use Rattle.c_grammar.specs.Limits.{max_depth};
+ghost use Rattle.c_grammar.specs.Operators.{tightness};
 ghost use Rattle.grammar_descent.specs.AllReaders.{readers};
 ghost use Rattle.grammar_descent.specs.InitialiserSteps as step;
 ghost use Rattle.token_reader.specs.Input.{Reads};
-ghost use Rattle.c_parser.specs.Closing as closing;
+ghost use Rattle.c_parser.specs.ListEnd.{list_end};
 
 use crate::phrases;
-use c_grammar::{Expression, Initialiser};
+use c_grammar::{Expression, Initialiser, Level};
 use c_tokens::Mark;
 use sqlite_items::Items;
 use std::alloc::Global;
-use token_reader::levels::ASSIGNED;
 use token_reader::{ParseError, Reader, refused_at};
 
 /// An expression without its height.
-#[tactic(auto, unfolding(grammar_descent::specs::InitialiserSteps::expression))]
+#[tactic(auto, unfolding(grammar_descent::specs::InitialiserSteps::expression_at))]
 pub fn expression(
     alloc: Global,
     reader: &mut Reader<'_>,
     depth: u32,
-    level: u8,
+    level: Level,
 ) -> Result<Expression, ParseError>
-    requires { depth ≤ 200 }
-    ensures { Reads (λ text ts. step.expression ts (readers text ts) depth level) reader.old result reader.new }
+    requires { depth ≤ max_depth }
+    ensures { Reads (λ text ts. step.expression_at ts (readers text ts) depth (tightness level)) reader.old result reader.new }
 {
     let (found, _) = phrases::expression(alloc, reader, depth, level)?;
     Ok(found)
@@ -31,15 +32,15 @@ pub fn expression(
 
 #[tactic(auto, unfolding(grammar_descent::specs::InitialiserSteps::value))]
 fn value(alloc: Global, reader: &mut Reader<'_>, depth: u32) -> Result<Initialiser, ParseError>
-    requires { depth ≤ 200 }
+    requires { depth ≤ max_depth }
     ensures { Reads (λ text ts. step.value ts (readers text ts) depth) reader.old result reader.new }
 {
-    Ok(Initialiser::Value(expression(alloc, reader, depth, ASSIGNED)?))
+    Ok(Initialiser::Value(expression(alloc, reader, depth, Level::Assignment)?))
 }
 
-/// Goes past a comma, or past the brace that closes a list with or without a comma before it, and answers whether it was closed.
-fn closed(reader: &mut Reader<'_>) -> Result<bool, ParseError>
-    ensures { Reads (λ text ts. closing.closed ts) reader.old result reader.new }
+/// Goes past a comma, or past the brace that closes a list with or without a comma before it, and answers whether the list ends.
+fn read_list_end(reader: &mut Reader<'_>) -> Result<bool, ParseError>
+    ensures { Reads (λ text ts. list_end ts) reader.old result reader.new }
 {
     if reader.sees_mark(Mark::RightBrace) {
         reader.pass(1);
@@ -48,7 +49,7 @@ fn closed(reader: &mut Reader<'_>) -> Result<bool, ParseError>
     if !reader.sees_mark(Mark::Comma) {
         return Err(reader.refuse());
     }
-    if reader.sees_mark_behind(1, Mark::RightBrace) {
+    if reader.sees_mark_after(1, Mark::RightBrace) {
         reader.pass(2);
         Ok(true)
     } else {
@@ -57,20 +58,20 @@ fn closed(reader: &mut Reader<'_>) -> Result<bool, ParseError>
     }
 }
 
-/// What stands behind a `{` up to the `}` that closes it. `depth` is that of the parts.
+/// What stands after a `{` up to the `}` that closes it. `depth` is that of the parts.
 #[cycle(initialiser)]
 fn initialisers(
     alloc: Global,
     reader: &mut Reader<'_>,
     depth: u32,
 ) -> Result<Items<Initialiser>, ParseError>
-    requires { depth ≤ 200 }
+    requires { depth ≤ max_depth }
     ensures { Reads (λ text ts. step.initialisers ts (readers text ts) (step.initialiser ts (readers text ts) depth) (length ts) []) reader.old result reader.new }
 {
     let mut found = Items::new(alloc);
     for _turn in 0..reader.tokens_len() {
         found.push(initialiser(alloc, reader, depth)?)?;
-        if closed(reader)? {
+        if read_list_end(reader)? {
             return Ok(found);
         }
     }
@@ -80,7 +81,7 @@ fn initialisers(
 #[cycle(initialiser)]
 #[tactic(auto, unfolding(grammar_descent::specs::InitialiserSteps::braces))]
 fn braces(alloc: Global, reader: &mut Reader<'_>, depth: u32) -> Result<Initialiser, ParseError>
-    requires small { depth ≤ 200 }
+    requires small { depth ≤ max_depth }
     requires within { reader.old.state.at + 1 ≤ length reader.old.tokens }
     ensures { Reads (λ text ts. step.braces ts (readers text ts) (step.initialiser ts (readers text ts) depth)) reader.old result reader.new }
 {
@@ -97,7 +98,7 @@ pub fn initialiser(
     reader: &mut Reader<'_>,
     depth: u32,
 ) -> Result<Initialiser, ParseError>
-    requires { depth ≤ 200 }
+    requires { depth ≤ max_depth }
     ensures { Reads (λ text ts. step.initialiser ts (readers text ts) depth) reader.old result reader.new }
 {
     if reader.sees_mark(Mark::LeftBrace) {

@@ -4,6 +4,8 @@ ghost use Rattle.std.specs.Prelude.{◌≡◌, ◌<◌, ◌≤◌, ◌+◌, [], 
 ghost use Rattle.c_tokens.specs.declared.kind.Kind.TheVariants as kind;
 ghost use Rattle.c_tokens.specs.declared.kind.Mark.TheVariants as mark;
 ghost use Rattle.c_grammar.specs.declared.statements.Statement.TheVariants as node;
+ghost use Rattle.c_grammar.specs.Limits.{max_depth};
+ghost use Rattle.c_grammar.specs.Operators.{tightness};
 ghost use Rattle.c_grammar.specs.Tokens as token;
 ghost use Rattle.grammar_descent.specs.AllReaders.{readers};
 ghost use Rattle.grammar_descent.specs.Reading as reading;
@@ -12,26 +14,25 @@ ghost use Rattle.token_reader.specs.Input.{Reads};
 ghost use Rattle.c_parser.specs.ForHeader as header;
 ghost use Rattle.c_parser.specs.NestsStatements.{NestsStatements};
 ghost use Rattle.token_reader.specs.Reader as spec;
+ghost use Rattle.token_reader.specs.Reader.{IsSameText};
 
 use crate::declarations::declaration;
 use crate::initialisers::expression;
-use c_grammar::{Block, BlockItem, Expression, ForStart, Statement};
+use c_grammar::{Block, BlockItem, Expression, ForStart, Level, Statement};
 use c_tokens::{Keyword, Kind, Mark};
 use grammar_descent::law_readers;
 use sqlite_items::{Boxed, Items};
 use std::alloc::Global;
-use token_reader::levels::{ANY, CONDITIONAL};
 use token_reader::{ParseError, Reader, refused_at};
 
-/// Goes past a word and the mark behind it.
+/// Goes past a word and the mark after it.
 fn pass_with(reader: &mut Reader<'_>, mark: Mark) -> Result<(), ParseError>
     requires { reader.old.state.at < length reader.old.tokens }
     ensures ok { OnOk result ((reading.mark_at reader.old.tokens (reader.old.state.at + 1) mark ≡ true) × (reader.new ≡ spec.moved reader.old (reading.past reader.old.state 2))) }
     ensures err { OnErr result (reading.mark_at reader.old.tokens (reader.old.state.at + 1) mark ≡ false) }
-    ensures text { reader.new.text ≡ reader.old.text }
-    ensures tokens { reader.new.tokens ≡ reader.old.tokens }
+    ensures kept { IsSameText reader.old reader.new }
 {
-    if reader.sees_mark_behind(1, mark) {
+    if reader.sees_mark_after(1, mark) {
         reader.pass(2);
         Ok(())
     } else {
@@ -40,77 +41,77 @@ fn pass_with(reader: &mut Reader<'_>, mark: Mark) -> Result<(), ParseError>
     }
 }
 
-/// An expression and the mark behind it.
-#[tactic(auto, unfolding(grammar_descent::specs::StatementSteps::closed))]
-fn closed(
+/// An expression and the mark after it.
+#[tactic(auto, unfolding(grammar_descent::specs::StatementSteps::expression_before))]
+fn expression_before(
     alloc: Global,
     reader: &mut Reader<'_>,
     depth: u32,
-    level: u8,
+    level: Level,
     mark: Mark,
 ) -> Result<Expression, ParseError>
-    requires { depth ≤ 200 }
-    ensures { Reads (λ text ts. step.closed text ts (readers text ts) depth level mark) reader.old result reader.new }
+    requires { depth ≤ max_depth }
+    ensures { Reads (λ text ts. step.expression_before text ts (readers text ts) depth (tightness level) mark) reader.old result reader.new }
 {
     let found = expression(alloc, reader, depth, level)?;
     reader.expect(mark)?;
     Ok(found)
 }
 
-/// An expression or nothing, and the mark behind it.
-#[tactic(auto, unfolding(grammar_descent::specs::StatementSteps::optional))]
-fn optional(
+/// An expression or nothing, and the mark after it.
+#[tactic(auto, unfolding(grammar_descent::specs::StatementSteps::optional_before))]
+fn optional_before(
     alloc: Global,
     reader: &mut Reader<'_>,
     depth: u32,
     mark: Mark,
 ) -> Result<Option<Expression>, ParseError>
-    requires { depth ≤ 200 }
-    ensures { Reads (λ text ts. step.optional text ts (readers text ts) depth mark) reader.old result reader.new }
+    requires { depth ≤ max_depth }
+    ensures { Reads (λ text ts. step.optional_before text ts (readers text ts) depth mark) reader.old result reader.new }
 {
     if reader.sees_mark(mark) {
         reader.pass(1);
         return Ok(None);
     }
-    Ok(Some(closed(alloc, reader, depth, ANY, mark)?))
+    Ok(Some(expression_before(alloc, reader, depth, Level::Comma, mark)?))
 }
 
-/// An expression in parentheses behind a word.
+/// An expression in parentheses after a word.
 #[tactic(auto, unfolding(grammar_descent::specs::StatementSteps::condition))]
 fn condition(alloc: Global, reader: &mut Reader<'_>, depth: u32) -> Result<Expression, ParseError>
-    requires small { depth ≤ 200 }
+    requires small { depth ≤ max_depth }
     requires within { reader.old.state.at < length reader.old.tokens }
     ensures { Reads (λ text ts. step.condition text ts (readers text ts) depth) reader.old result reader.new }
 {
     pass_with(reader, Mark::LeftParen)?;
-    closed(alloc, reader, depth, ANY, Mark::RightParen)
+    expression_before(alloc, reader, depth, Level::Comma, Mark::RightParen)
 }
 
-/// What stands first behind `for (`, up to its semicolon.
+/// What stands first after `for (`, up to its semicolon.
 #[tactic(auto, unfolding(grammar_descent::specs::StatementSteps::for_start))]
 fn for_start(alloc: Global, reader: &mut Reader<'_>, depth: u32) -> Result<ForStart, ParseError>
-    requires { depth ≤ 200 }
+    requires { depth ≤ max_depth }
     ensures { Reads (λ text ts. step.for_start text ts (readers text ts) depth) reader.old result reader.new }
 {
-    if reader.begins_specs_behind(alloc, 0)? {
+    if reader.begins_specs_after(0) {
         Ok(ForStart::Declaration(declaration(alloc, reader, depth)?))
     } else {
-        Ok(ForStart::Expression(optional(alloc, reader, depth, Mark::Semicolon)?))
+        Ok(ForStart::Expression(optional_before(alloc, reader, depth, Mark::Semicolon)?))
     }
 }
 
-/// The test and the step of a `for`, with the mark behind each.
-#[tactic(auto, unfolding(crate::specs::ForHeader::controls))]
-fn controls(
+/// The test and the step of a `for`, with the mark after each.
+#[tactic(auto, unfolding(crate::specs::ForHeader::for_controls))]
+fn for_controls(
     alloc: Global,
     reader: &mut Reader<'_>,
     depth: u32,
 ) -> Result<(Option<Expression>, Option<Expression>), ParseError>
-    requires { depth ≤ 200 }
-    ensures { Reads (λ text ts. header.controls text ts (readers text ts) depth) reader.old result reader.new }
+    requires { depth ≤ max_depth }
+    ensures { Reads (λ text ts. header.for_controls text ts (readers text ts) depth) reader.old result reader.new }
 {
-    let test = optional(alloc, reader, depth, Mark::Semicolon)?;
-    let step = optional(alloc, reader, depth, Mark::RightParen)?;
+    let test = optional_before(alloc, reader, depth, Mark::Semicolon)?;
+    let step = optional_before(alloc, reader, depth, Mark::RightParen)?;
     Ok((test, step))
 }
 
@@ -121,21 +122,21 @@ fn for_header(
     reader: &mut Reader<'_>,
     depth: u32,
 ) -> Result<(ForStart, Option<Expression>, Option<Expression>), ParseError>
-    requires small { depth ≤ 200 }
+    requires small { depth ≤ max_depth }
     requires within { reader.old.state.at < length reader.old.tokens }
     ensures { Reads (λ text ts. header.for_header text ts (readers text ts) depth) reader.old result reader.new }
 {
     pass_with(reader, Mark::LeftParen)?;
     let start = for_start(alloc, reader, depth)?;
-    let (test, step) = controls(alloc, reader, depth)?;
+    let (test, step) = for_controls(alloc, reader, depth)?;
     Ok((start, test, step))
 }
 
 /// `default:`
-#[tactic(auto, unfolding(grammar_descent::specs::StatementSteps::by_itself))]
+#[tactic(auto, unfolding(grammar_descent::specs::StatementSteps::word_before))]
 fn default_label(reader: &mut Reader<'_>) -> Result<Statement, ParseError>
     requires { reader.old.state.at < length reader.old.tokens }
-    ensures { Reads (λ text ts s. step.by_itself text ts (readers text ts) 0 mark.Colon (node.Default (token.place_at ts s.at)) s) reader.old result reader.new }
+    ensures { Reads (λ text ts s. step.word_before text ts (readers text ts) 0 mark.Colon (node.Default (token.place_at ts s.at)) s) reader.old result reader.new }
 {
     let place = reader.place();
     pass_with(reader, Mark::Colon)?;
@@ -143,10 +144,10 @@ fn default_label(reader: &mut Reader<'_>) -> Result<Statement, ParseError>
 }
 
 /// `break;`
-#[tactic(auto, unfolding(grammar_descent::specs::StatementSteps::by_itself))]
-fn break_off(reader: &mut Reader<'_>) -> Result<Statement, ParseError>
+#[tactic(auto, unfolding(grammar_descent::specs::StatementSteps::word_before))]
+fn break_statement(reader: &mut Reader<'_>) -> Result<Statement, ParseError>
     requires { reader.old.state.at < length reader.old.tokens }
-    ensures { Reads (λ text ts s. step.by_itself text ts (readers text ts) 0 mark.Semicolon (node.Break (token.place_at ts s.at)) s) reader.old result reader.new }
+    ensures { Reads (λ text ts s. step.word_before text ts (readers text ts) 0 mark.Semicolon (node.Break (token.place_at ts s.at)) s) reader.old result reader.new }
 {
     let place = reader.place();
     pass_with(reader, Mark::Semicolon)?;
@@ -154,52 +155,56 @@ fn break_off(reader: &mut Reader<'_>) -> Result<Statement, ParseError>
 }
 
 /// `continue;`
-#[tactic(auto, unfolding(grammar_descent::specs::StatementSteps::by_itself))]
-fn go_on(reader: &mut Reader<'_>) -> Result<Statement, ParseError>
+#[tactic(auto, unfolding(grammar_descent::specs::StatementSteps::word_before))]
+fn continue_statement(reader: &mut Reader<'_>) -> Result<Statement, ParseError>
     requires { reader.old.state.at < length reader.old.tokens }
-    ensures { Reads (λ text ts s. step.by_itself text ts (readers text ts) 0 mark.Semicolon (node.Continue (token.place_at ts s.at)) s) reader.old result reader.new }
+    ensures { Reads (λ text ts s. step.word_before text ts (readers text ts) 0 mark.Semicolon (node.Continue (token.place_at ts s.at)) s) reader.old result reader.new }
 {
     let place = reader.place();
     pass_with(reader, Mark::Semicolon)?;
     Ok(Statement::Continue(place))
 }
 
-#[tactic(auto, unfolding(grammar_descent::specs::StatementSteps::of_expression))]
-fn of_expression(
+#[tactic(auto, unfolding(grammar_descent::specs::StatementSteps::expression_statement))]
+fn expression_statement(
     alloc: Global,
     reader: &mut Reader<'_>,
     depth: u32,
 ) -> Result<Statement, ParseError>
-    requires { depth ≤ 200 }
-    ensures { Reads (λ text ts. step.of_expression text ts (readers text ts) depth) reader.old result reader.new }
+    requires { depth ≤ max_depth }
+    ensures { Reads (λ text ts. step.expression_statement text ts (readers text ts) depth) reader.old result reader.new }
 {
     let place = reader.place();
-    let value = closed(alloc, reader, depth, ANY, Mark::Semicolon)?;
+    let value = expression_before(alloc, reader, depth, Level::Comma, Mark::Semicolon)?;
     Ok(Statement::Expression(place, value))
 }
 
 /// `case value:`
-#[tactic(auto, unfolding(grammar_descent::specs::StatementSteps::labelled))]
-fn labelled(alloc: Global, reader: &mut Reader<'_>, depth: u32) -> Result<Statement, ParseError>
-    requires small { depth ≤ 200 }
+#[tactic(auto, unfolding(grammar_descent::specs::StatementSteps::case_label))]
+fn case_label(alloc: Global, reader: &mut Reader<'_>, depth: u32) -> Result<Statement, ParseError>
+    requires small { depth ≤ max_depth }
     requires within { reader.old.state.at + 1 ≤ length reader.old.tokens }
-    ensures { Reads (λ text ts. step.labelled text ts (readers text ts) depth) reader.old result reader.new }
+    ensures { Reads (λ text ts. step.case_label text ts (readers text ts) depth) reader.old result reader.new }
 {
     let place = reader.place();
     reader.pass(1);
-    let value = closed(alloc, reader, depth, CONDITIONAL, Mark::Colon)?;
+    let value = expression_before(alloc, reader, depth, Level::Conditional, Mark::Colon)?;
     Ok(Statement::Case(place, value))
 }
 
-#[tactic(auto, unfolding(grammar_descent::specs::StatementSteps::returned))]
-fn returned(alloc: Global, reader: &mut Reader<'_>, depth: u32) -> Result<Statement, ParseError>
-    requires small { depth ≤ 200 }
+#[tactic(auto, unfolding(grammar_descent::specs::StatementSteps::return_statement))]
+fn return_statement(
+    alloc: Global,
+    reader: &mut Reader<'_>,
+    depth: u32,
+) -> Result<Statement, ParseError>
+    requires small { depth ≤ max_depth }
     requires within { reader.old.state.at + 1 ≤ length reader.old.tokens }
-    ensures { Reads (λ text ts. step.returned text ts (readers text ts) depth) reader.old result reader.new }
+    ensures { Reads (λ text ts. step.return_statement text ts (readers text ts) depth) reader.old result reader.new }
 {
     let place = reader.place();
     reader.pass(1);
-    let value = optional(alloc, reader, depth, Mark::Semicolon)?;
+    let value = optional_before(alloc, reader, depth, Mark::Semicolon)?;
     Ok(Statement::Return(place, value))
 }
 
@@ -242,7 +247,7 @@ impl<F: Fn(Global, &mut Reader<'_>, u32) -> Result<Statement, ParseError>> Parts
         requires inside { depth ≤ self.now.depth }
         ensures { Reads (λ text ts. step.item_of text ts (readers text ts) depth (step.statement text ts (readers text ts) depth)) reader.old result reader.new }
     {
-        if reader.begins_specs_behind(self.alloc, 0)? {
+        if reader.begins_specs_after(0) {
             let found = declaration(self.alloc, reader, depth)?;
             Ok(BlockItem::Declaration(found))
         } else {
@@ -250,7 +255,7 @@ impl<F: Fn(Global, &mut Reader<'_>, u32) -> Result<Statement, ParseError>> Parts
         }
     }
 
-    /// What stands in a block behind its `{`, with the `}`.
+    /// What stands in a block after its `{`, with the `}`.
     fn items(&self, reader: &mut Reader<'_>, depth: u32) -> Result<Items<BlockItem>, ParseError>
         requires nests { NestsStatements self.now.depth (F.pre self.now.statement) (F.post self.now.statement) }
         requires inside { depth ≤ self.now.depth }
@@ -294,20 +299,20 @@ impl<F: Fn(Global, &mut Reader<'_>, u32) -> Result<Statement, ParseError>> Parts
         self.block(reader, self.depth - 1)
     }
 
-    #[tactic(auto, unfolding(grammar_descent::specs::StatementSteps::whole_block))]
-    fn whole_block(&self, reader: &mut Reader<'_>) -> Result<Statement, ParseError>
+    #[tactic(auto, unfolding(grammar_descent::specs::StatementSteps::block_statement))]
+    fn block_statement(&self, reader: &mut Reader<'_>) -> Result<Statement, ParseError>
         requires { NestsStatements self.now.depth (F.pre self.now.statement) (F.post self.now.statement) }
-        ensures { Reads (λ text ts. step.whole_block text ts (readers text ts) self.now.depth (step.statement text ts (readers text ts) self.now.depth)) reader.old result reader.new }
+        ensures { Reads (λ text ts. step.block_statement text ts (readers text ts) self.now.depth (step.statement text ts (readers text ts) self.now.depth)) reader.old result reader.new }
     {
         Ok(Statement::Block(self.block(reader, self.depth)?))
     }
 
-    /// `if (test) then`, and the `else` behind it, if there is one. Each part is a scope, and so is the whole (C11 6.8.4p3).
-    #[tactic(auto, unfolding(grammar_descent::specs::StatementSteps::selected, grammar_descent::specs::StatementSteps::otherwise))]
-    fn selected(&self, reader: &mut Reader<'_>) -> Result<Statement, ParseError>
+    /// `if (test) then`, and the `else` after it, if there is one. Each part is a scope, and so is the whole (C11 6.8.4p3).
+    #[tactic(auto, unfolding(grammar_descent::specs::StatementSteps::if_statement, grammar_descent::specs::StatementSteps::else_after))]
+    fn read_if(&self, reader: &mut Reader<'_>) -> Result<Statement, ParseError>
         requires nests { NestsStatements self.now.depth (F.pre self.now.statement) (F.post self.now.statement) }
         requires within { reader.old.state.at < length reader.old.tokens }
-        ensures { Reads (λ text ts. step.selected text ts (readers text ts) self.now.depth (step.statement text ts (readers text ts) self.now.depth)) reader.old result reader.new }
+        ensures { Reads (λ text ts. step.if_statement text ts (readers text ts) self.now.depth (step.statement text ts (readers text ts) self.now.depth)) reader.old result reader.new }
     {
         law_readers();
         let place = reader.place();
@@ -329,11 +334,11 @@ impl<F: Fn(Global, &mut Reader<'_>, u32) -> Result<Statement, ParseError>> Parts
     }
 
     /// `while (test) body`
-    #[tactic(auto, unfolding(grammar_descent::specs::StatementSteps::repeated))]
-    fn repeated(&self, reader: &mut Reader<'_>) -> Result<Statement, ParseError>
+    #[tactic(auto, unfolding(grammar_descent::specs::StatementSteps::while_statement))]
+    fn read_while(&self, reader: &mut Reader<'_>) -> Result<Statement, ParseError>
         requires nests { NestsStatements self.now.depth (F.pre self.now.statement) (F.post self.now.statement) }
         requires within { reader.old.state.at < length reader.old.tokens }
-        ensures { Reads (λ text ts. step.repeated text ts (readers text ts) self.now.depth (step.statement text ts (readers text ts) self.now.depth)) reader.old result reader.new }
+        ensures { Reads (λ text ts. step.while_statement text ts (readers text ts) self.now.depth (step.statement text ts (readers text ts) self.now.depth)) reader.old result reader.new }
     {
         law_readers();
         let place = reader.place();
@@ -346,11 +351,11 @@ impl<F: Fn(Global, &mut Reader<'_>, u32) -> Result<Statement, ParseError>> Parts
     }
 
     /// `do body while (test);`
-    #[tactic(auto, unfolding(grammar_descent::specs::StatementSteps::done))]
-    fn done(&self, reader: &mut Reader<'_>) -> Result<Statement, ParseError>
+    #[tactic(auto, unfolding(grammar_descent::specs::StatementSteps::do_statement))]
+    fn read_do(&self, reader: &mut Reader<'_>) -> Result<Statement, ParseError>
         requires nests { NestsStatements self.now.depth (F.pre self.now.statement) (F.post self.now.statement) }
         requires within { reader.old.state.at + 1 ≤ length reader.old.tokens }
-        ensures { Reads (λ text ts. step.done text ts (readers text ts) self.now.depth (step.statement text ts (readers text ts) self.now.depth)) reader.old result reader.new }
+        ensures { Reads (λ text ts. step.do_statement text ts (readers text ts) self.now.depth (step.statement text ts (readers text ts) self.now.depth)) reader.old result reader.new }
     {
         law_readers();
         let place = reader.place();
@@ -369,10 +374,10 @@ impl<F: Fn(Global, &mut Reader<'_>, u32) -> Result<Statement, ParseError>> Parts
     }
 
     /// `for (start test; step) body`, which is a scope (C11 6.8.5p5).
-    fn counted(&self, reader: &mut Reader<'_>) -> Result<Statement, ParseError>
+    fn read_for(&self, reader: &mut Reader<'_>) -> Result<Statement, ParseError>
         requires nests { NestsStatements self.now.depth (F.pre self.now.statement) (F.post self.now.statement) }
         requires within { reader.old.state.at < length reader.old.tokens }
-        ensures { Reads (λ text ts. step.counted text ts (readers text ts) self.now.depth (step.statement text ts (readers text ts) self.now.depth)) reader.old result reader.new }
+        ensures { Reads (λ text ts. step.for_statement text ts (readers text ts) self.now.depth (step.statement text ts (readers text ts) self.now.depth)) reader.old result reader.new }
     {
         law_readers();
         let place = reader.place();
@@ -386,11 +391,11 @@ impl<F: Fn(Global, &mut Reader<'_>, u32) -> Result<Statement, ParseError>> Parts
     }
 
     /// `switch (value) block`
-    #[tactic(auto, unfolding(grammar_descent::specs::StatementSteps::switched))]
-    fn switched(&self, reader: &mut Reader<'_>) -> Result<Statement, ParseError>
+    #[tactic(auto, unfolding(grammar_descent::specs::StatementSteps::switch_statement))]
+    fn read_switch(&self, reader: &mut Reader<'_>) -> Result<Statement, ParseError>
         requires nests { NestsStatements self.now.depth (F.pre self.now.statement) (F.post self.now.statement) }
         requires within { reader.old.state.at < length reader.old.tokens }
-        ensures { Reads (λ text ts. step.switched text ts (readers text ts) self.now.depth (step.block text ts (readers text ts) self.now.depth)) reader.old result reader.new }
+        ensures { Reads (λ text ts. step.switch_statement text ts (readers text ts) self.now.depth (step.block text ts (readers text ts) self.now.depth)) reader.old result reader.new }
     {
         law_readers();
         let place = reader.place();
@@ -402,52 +407,56 @@ impl<F: Fn(Global, &mut Reader<'_>, u32) -> Result<Statement, ParseError>> Parts
     }
 
     /// What begins with this word.
-    fn by_word(&self, reader: &mut Reader<'_>, word: Keyword) -> Result<Statement, ParseError>
+    fn statement_by_word(
+        &self,
+        reader: &mut Reader<'_>,
+        word: Keyword,
+    ) -> Result<Statement, ParseError>
         requires nests { NestsStatements self.now.depth (F.pre self.now.statement) (F.post self.now.statement) }
         requires within { reader.old.state.at + 1 ≤ length reader.old.tokens }
         ensures { Reads (λ text ts s. step.statement_by text ts (readers text ts) self.now.depth (step.statement text ts (readers text ts) self.now.depth) (step.block text ts (readers text ts) self.now.depth) s (Some (kind.Word word))) reader.old result reader.new }
     {
         match word {
-            Keyword::If => self.selected(reader),
-            Keyword::While => self.repeated(reader),
-            Keyword::Do => self.done(reader),
-            Keyword::For => self.counted(reader),
-            Keyword::Switch => self.switched(reader),
-            Keyword::Case => labelled(self.alloc, reader, self.depth),
+            Keyword::If => self.read_if(reader),
+            Keyword::While => self.read_while(reader),
+            Keyword::Do => self.read_do(reader),
+            Keyword::For => self.read_for(reader),
+            Keyword::Switch => self.read_switch(reader),
+            Keyword::Case => case_label(self.alloc, reader, self.depth),
             Keyword::Default => default_label(reader),
-            Keyword::Break => break_off(reader),
-            Keyword::Continue => go_on(reader),
-            Keyword::Return => returned(self.alloc, reader, self.depth),
-            _ => of_expression(self.alloc, reader, self.depth),
+            Keyword::Break => break_statement(reader),
+            Keyword::Continue => continue_statement(reader),
+            Keyword::Return => return_statement(self.alloc, reader, self.depth),
+            _ => expression_statement(self.alloc, reader, self.depth),
         }
     }
 
     /// By the first token.
-    fn by_first(&self, reader: &mut Reader<'_>) -> Result<Statement, ParseError>
+    fn statement_by_token(&self, reader: &mut Reader<'_>) -> Result<Statement, ParseError>
         requires { NestsStatements self.now.depth (F.pre self.now.statement) (F.post self.now.statement) }
         ensures { Reads (λ text ts s. step.statement_by text ts (readers text ts) self.now.depth (step.statement text ts (readers text ts) self.now.depth) (step.block text ts (readers text ts) self.now.depth) s (token.kind_at ts s.at)) reader.old result reader.new }
     {
         match reader.kind() {
-            Some(Kind::Mark(Mark::LeftBrace)) => self.whole_block(reader),
+            Some(Kind::Mark(Mark::LeftBrace)) => self.block_statement(reader),
             Some(Kind::Mark(Mark::Semicolon)) => {
                 let place = reader.place();
                 reader.pass(1);
                 Ok(Statement::Empty(place))
             }
-            Some(Kind::Word(word)) => self.by_word(reader, word),
-            _ => of_expression(self.alloc, reader, self.depth),
+            Some(Kind::Word(word)) => self.statement_by_word(reader, word),
+            _ => expression_statement(self.alloc, reader, self.depth),
         }
     }
 
     /// The same; its first word is refused where no depth is left for the parts that it needs.
     #[tactic(auto, using(token_reader::proofs::Refusals::same_reads))]
-    fn any(&self, reader: &mut Reader<'_>) -> Result<Statement, ParseError>
+    fn read_statement(&self, reader: &mut Reader<'_>) -> Result<Statement, ParseError>
         requires { NestsStatements self.now.depth (F.pre self.now.statement) (F.post self.now.statement) }
         ensures { Reads (λ text ts s. step.statement_by text ts (readers text ts) self.now.depth (step.statement text ts (readers text ts) self.now.depth) (step.block text ts (readers text ts) self.now.depth) s (token.kind_at ts s.at)) reader.old result reader.new }
     {
         let too_deep = self.depth == 0 && needs_parts(reader);
         let start = too_deep.then_some(reader.at() as u32);
-        let found = self.by_first(reader);
+        let found = self.statement_by_token(reader);
         refused_at(found, start)
     }
 }
@@ -458,7 +467,7 @@ pub fn statement(
     reader: &mut Reader<'_>,
     depth: u32,
 ) -> Result<Statement, ParseError>
-    requires { depth ≤ 200 }
+    requires { depth ≤ max_depth }
     ensures { Reads (λ text ts. step.statement text ts (readers text ts) depth) reader.old result reader.new }
 {
     if depth == 0 {
@@ -469,12 +478,12 @@ pub fn statement(
         depth: depth - 1,
         statement,
     }
-    .any(reader)
+    .read_statement(reader)
 }
 
 /// A block that is nested no deeper than `depth`.
 pub fn block(alloc: Global, reader: &mut Reader<'_>, depth: u32) -> Result<Block, ParseError>
-    requires { depth ≤ 200 }
+    requires { depth ≤ max_depth }
     ensures { Reads (λ text ts. step.block text ts (readers text ts) depth) reader.old result reader.new }
 {
     Parts {

@@ -1,65 +1,77 @@
 //! Functions, whole texts (C11 6.9), and names of types that stand alone (C11 6.7.7).
 
-ghost use Rattle.std.specs.Prelude.{◌≡◌, ◌≤◌, ◌+◌, ℕ, [], length, IfOk, OnOk, MatchResult, IsErrOf, alloc_error};
-ghost use Rattle.c_grammar.specs.declared.phrases.TypeName.{TypeName as NameOfType};
+ghost use Rattle.std.specs.Prelude.{◌≡◌, ◌<◌, ◌≤◌, ◌+◌, ◌++◌, ℕ, [], map, All, length, IfOk, IfSome, OnOk, MatchResult, IsErrOf, alloc_error, option_map};
+ghost use Rattle.c_tokens.specs.Limits.{max_source_bytes, max_tokens};
+ghost use Rattle.token_texts.specs.Strings.{HaveStrings};
+ghost use Rattle.token_texts.specs.Texts.{AreTextsWith, AreTexts, name_of};
+ghost use Rattle.c_grammar.specs.declared.units.TypeName.{TypeName as NameOfType};
 ghost use Rattle.c_grammar.specs.declared.units.Unit.{Unit as Tree};
+ghost use Rattle.c_grammar.specs.Limits.{max_depth, max_nodes};
 ghost use Rattle.c_grammar.specs.Scope.{with_parameters};
-ghost use Rattle.c_grammar.specs.Units.{Derives, DerivesTypeName, max_depth};
+ghost use Rattle.c_grammar.specs.Units.{Derives, DerivesTypeName};
 ghost use Rattle.grammar_descent.specs.AllReaders.{readers, read_unit, read_type_name};
 ghost use Rattle.grammar_descent.specs.UnitSteps as step;
-ghost use Rattle.c_parser.specs.Answers.{Answers, body_of};
 ghost use Rattle.token_reader.specs.Input.{Reads};
 ghost use Rattle.token_reader.specs.Reader as spec;
-ghost use Rattle.token_reader.specs.Uses.{as_use};
+ghost use Rattle.token_reader.specs.Reader.{IsSameText};
+ghost use Rattle.token_reader.specs.Scoping.{spelled, AreSpelled};
+ghost use Rattle.tree_sizes.specs.Depths.{depth_of_unit, depth_of_type_phrase};
 ghost use Rattle.tree_sizes.specs.Sizes.{nodes_of_unit};
+ghost use Rattle.c_parser.specs.Answers.{Answers, body_of, phrase_of};
+ghost use Rattle.c_parser.specs.Named.{HasSpelling, spelled_named};
+ghost use Rattle.c_parser.specs.Refused.{IsRefusedWithin};
 
-use crate::declarations::{declarator, init_declarators};
+use crate::declarations::{NamedDeclarator, init_declarators, named_declarator};
 use crate::phrases;
+use crate::refused::refused_within;
 use crate::statements::block;
-use c_grammar::{Block, Declaration, Declarator, External, Function, TypeName, Unit};
+use c_grammar::{
+    Block, Declaration, External, Function, MAX_DEPTH, NameKind, Naming, TypeName, TypePhrase, Unit,
+};
 use c_tokens::{Mark, Token};
 use c_types::Text;
 use grammar_descent::law_readers;
 use sqlite_items::Items;
 use std::alloc::{AllocError, Global};
-use token_reader::{Naming, Own, ParseError, Reader, Use};
-use tree_sizes::law_sizes;
-
-/// How deep statements, expressions, declarators, lists of members and initialisers in braces may nest.
-const MAX_DEPTH: u32 = 200;
+use token_reader::{ParameterNames, ParseError, Reader};
+use token_texts::{TokenTexts, law_texts, texts_with_typedefs, token_texts};
+use tree_sizes::{law_depths, law_sizes};
 
 /// The parameters share the scope of the function's block (C11 6.2.1p4).
-fn declare_own(alloc: Global, reader: &mut Reader<'_>, own: Option<Own>) -> Result<(), AllocError>
-    ensures ok { OnOk result (reader.new ≡ spec.with_scope reader.old (with_parameters own reader.old.state.scope)) }
-    ensures text { reader.new.text ≡ reader.old.text }
-    ensures tokens { reader.new.tokens ≡ reader.old.tokens }
+fn declare_parameters(
+    reader: &mut Reader<'_>,
+    own: &Option<ParameterNames>,
+) -> Result<(), AllocError>
+    requires { IfSome own.now (AreSpelled reader.old.texts) }
+    ensures ok { OnOk result (reader.new ≡ spec.with_scope reader.old (with_parameters (option_map (spelled reader.old.texts) own.now) reader.old.state.scope)) }
+    ensures kept { IsSameText reader.old reader.new }
 {
     match own {
         Some(own) => {
-            reader.declare_all(alloc, &own)?;
+            reader.declare_all(own)?;
             Ok(())
         }
         None => Ok(()),
     }
 }
 
-/// The block of a function whose declarator was read. The function's name is in scope in it and behind it.
-fn body(
+/// The block of a function whose declarator was read. The function's name is in scope in it and after it.
+fn function_body(
     alloc: Global,
     reader: &mut Reader<'_>,
-    what: Use,
-    function: (Declarator, Text, Option<Own>),
-) -> Result<(Declarator, Block), ParseError>
-    ensures { Reads (λ text ts. body_of text ts (readers text ts) (as_use what) function) reader.old result reader.new }
+    kind: NameKind,
+    function: &NamedDeclarator,
+) -> Result<Block, ParseError>
+    requires { HasSpelling reader.old.texts function.now }
+    ensures { Reads (λ text ts. body_of text ts (readers text ts) kind (spelled_named reader.old.texts function.now)) reader.old result reader.new }
 {
     law_readers();
-    let (declarator, name, own) = function;
-    reader.declare(alloc, name.bytes(), what)?;
+    reader.declare(function.name, kind)?;
     let count = reader.in_scope();
-    declare_own(alloc, reader, own)?;
+    declare_parameters(reader, &function.own)?;
     let body = block(alloc, reader, MAX_DEPTH)?;
     reader.close(count);
-    Ok((declarator, body))
+    Ok(body)
 }
 
 /// A declaration or a function.
@@ -67,30 +79,30 @@ fn external(alloc: Global, reader: &mut Reader<'_>) -> Result<External, ParseErr
     ensures { Reads (λ text ts. step.external text ts (readers text ts)) reader.old result reader.new }
 {
     let place = reader.place();
-    let (specs, what, _) = phrases::specs(alloc, reader, MAX_DEPTH)?;
+    let specs = phrases::specs(alloc, reader, MAX_DEPTH)?;
     if reader.sees_mark(Mark::Semicolon) {
         reader.pass(1);
         return Ok(External::Declaration(Declaration {
             place,
-            specs,
+            specs: specs.node,
             declarators: Items::new(alloc),
         }));
     }
     let from = reader.at();
-    let first = declarator(alloc, reader, MAX_DEPTH)?;
+    let first = named_declarator(alloc, reader, MAX_DEPTH)?;
     if reader.sees_mark(Mark::LeftBrace) {
-        let (declarator, body) = body(alloc, reader, what, first)?;
+        let body = function_body(alloc, reader, specs.kind, &first)?;
         return Ok(External::Function(Function {
             place,
-            specs,
-            declarator,
+            specs: specs.node,
+            declarator: first.node,
             body,
         }));
     }
-    let declarators = init_declarators(alloc, reader, MAX_DEPTH, what, from, first)?;
+    let declarators = init_declarators(alloc, reader, MAX_DEPTH, specs.kind, from, first)?;
     Ok(External::Declaration(Declaration {
         place,
-        specs,
+        specs: specs.node,
         declarators,
     }))
 }
@@ -109,45 +121,67 @@ fn externals(alloc: Global, reader: &mut Reader<'_>) -> Result<Items<External>, 
     Err(reader.refuse())
 }
 
-fn unit_items(alloc: Global, text: &[u8], tokens: &[Token]) -> Result<Items<External>, ParseError>
-    requires { length tokens.now ≤ 200000 }
-    ensures { Answers result (read_unit text.now tokens.now) }
-{
-    let mut reader = Reader::new(alloc, text, tokens)?;
-    externals(alloc, &mut reader)
-}
-
-#[tactic(auto, unfolding(grammar_descent::specs::UnitSteps::name_of_type))]
-fn name_of_type(alloc: Global, reader: &mut Reader<'_>) -> Result<TypeName, ParseError>
-    ensures { Reads (λ text ts. step.name_of_type text ts (readers text ts) max_depth) reader.old result reader.new }
-{
-    let place = reader.place();
-    let (specs, _, _) = phrases::specs(alloc, reader, MAX_DEPTH)?;
-    let (declarator, _, _, _) = phrases::declarator(alloc, reader, MAX_DEPTH, Naming::NotNamed)?;
-    Ok(TypeName {
-        place,
-        specs,
-        declarator,
-    })
-}
-
-#[tactic(auto, unfolding(grammar_descent::specs::UnitSteps::lone_type))]
-fn lone_type(
+/// The declarations and functions of a unit.
+fn unit_items(
     alloc: Global,
     text: &[u8],
     tokens: &[Token],
-    typedefs: &[Text],
-) -> Result<TypeName, ParseError>
-    requires { length tokens.now ≤ 200000 }
-    ensures { Answers result (read_type_name text.now tokens.now typedefs.now) }
+    texts: &TokenTexts,
+) -> Result<Items<External>, ParseError>
+    requires few { length tokens.now ≤ max_tokens }
+    requires texts { AreTexts text.now tokens.now texts.now }
+    ensures answers { Answers result (read_unit text.now tokens.now) }
+    ensures within { IsRefusedWithin (length tokens.now) result }
 {
-    let mut reader = Reader::with_typedefs(alloc, text, tokens, typedefs)?;
-    let found = name_of_type(alloc, &mut reader)?;
+    let mut reader = Reader::new(alloc, text, tokens, texts, &[])?;
+    let found = externals(alloc, &mut reader);
+    refused_within(found, tokens.len() as u32)
+}
+
+/// Specifiers and a declarator without a name.
+#[tactic(auto, unfolding(grammar_descent::specs::UnitSteps::type_phrase_alone))]
+fn type_phrase(alloc: Global, reader: &mut Reader<'_>) -> Result<TypePhrase, ParseError>
+    ensures { Reads (λ text ts. step.type_phrase_alone text ts (readers text ts) max_depth) reader.old result reader.new }
+{
+    let place = reader.place();
+    let specs = phrases::specs(alloc, reader, MAX_DEPTH)?;
+    let declarator = phrases::declarator(alloc, reader, MAX_DEPTH, Naming::NotNamed)?;
+    Ok(TypePhrase {
+        place,
+        specs: specs.node,
+        declarator: declarator.node,
+    })
+}
+
+/// The phrase, after which no token may stand.
+fn whole_phrase(alloc: Global, reader: &mut Reader<'_>) -> Result<TypePhrase, ParseError>
+    ensures { Answers result (phrase_of reader.old.text reader.old.tokens reader.old.state) }
+{
+    let found = type_phrase(alloc, reader)?;
     if reader.at() == reader.tokens_len() {
         Ok(found)
     } else {
         Err(reader.refuse())
     }
+}
+
+/// The phrase of a name of a type, where the names of these numbers are types beside the predefined ones.
+fn lone_phrase(
+    alloc: Global,
+    text: &[u8],
+    tokens: &[Token],
+    texts: &TokenTexts,
+    typedefs: &[u32],
+) -> Result<TypePhrase, ParseError>
+    requires few { length tokens.now ≤ max_tokens }
+    requires texts { AreTextsWith (map (name_of texts.now) typedefs.now) text.now tokens.now texts.now }
+    requires spelled { All (λ n. n < length texts.now.names) typedefs.now }
+    ensures answers { Answers result (read_type_name text.now tokens.now (map (name_of texts.now) typedefs.now)) }
+    ensures within { IsRefusedWithin (length tokens.now) result }
+{
+    let mut reader = Reader::new(alloc, text, tokens, texts, typedefs)?;
+    let found = whole_phrase(alloc, &mut reader);
+    refused_within(found, tokens.len() as u32)
 }
 
 /// Reads the tokens of `text`, all of them, as a translation unit (C11 6.9): its declarations and functions one after another.
@@ -157,19 +191,27 @@ fn lone_type(
 /// the tree are numbers of tokens. `ParseError::Syntax` is for tokens that no unit has, also for those that nest deeper than the
 /// profile's 200; `ParseError::Memory` says nothing of the tokens.
 pub fn parse(alloc: Global, text: &[u8], tokens: &[Token]) -> Result<Unit, ParseError>
-    requires { length tokens.now ≤ 200000 }
+    requires small { length text.now ≤ max_source_bytes }
+    requires count { length tokens.now ≤ max_tokens }
+    requires strings { HaveStrings text.now tokens.now }
     // What is answered derives all the tokens.
     ensures found { IfOk result (λ unit. Derives text.now tokens.now unit) }
     // What derives the tokens is answered, unless memory runs out.
     ensures only { (unit : Tree) → Derives text.now tokens.now unit → MatchResult result (λ answer. answer ≡ unit) (λ e. e ≡ ParseError.Memory alloc_error) }
     // Nothing derives what is refused.
     ensures refused { (at : ℕ) → IsErrOf result (ParseError.Syntax at) → (unit : Tree) → Derives text.now tokens.now unit → ⊥ }
-    ensures few { IfOk result (λ unit. nodes_of_unit unit ≤ 2000000) }
+    // A refusal names a token, or the end of them.
+    ensures within { (at : ℕ) → IsErrOf result (ParseError.Syntax at) → at ≤ length tokens.now }
+    ensures few { IfOk result (λ unit. nodes_of_unit unit ≤ max_nodes) }
+    ensures shallow { IfOk result (λ unit. depth_of_unit unit ≤ max_depth) }
 {
     law_readers();
+    law_texts();
     law_sizes();
-    let items = unit_items(alloc, text, tokens)?;
-    Ok(Unit { items })
+    law_depths();
+    let texts = token_texts(alloc, text, tokens)?;
+    let items = unit_items(alloc, text, tokens, &texts)?;
+    Ok(Unit { items, texts })
 }
 
 /// Reads the tokens of `text`, all of them, as the name of a type (C11 6.7.7), as in `sizeof (int *[3])` between the parentheses.
@@ -181,15 +223,26 @@ pub fn parse_type_name(
     tokens: &[Token],
     typedefs: &[Text],
 ) -> Result<TypeName, ParseError>
-    requires { length tokens.now ≤ 200000 }
+    requires small { length text.now ≤ max_source_bytes }
+    requires count { length tokens.now ≤ max_tokens }
+    requires strings { HaveStrings text.now tokens.now }
     // What is answered derives all the tokens.
     ensures found { IfOk result (λ type. DerivesTypeName text.now tokens.now typedefs.now type) }
     // What derives the tokens is answered, unless memory runs out.
     ensures only { (type : NameOfType) → DerivesTypeName text.now tokens.now typedefs.now type → MatchResult result (λ answer. answer ≡ type) (λ e. e ≡ ParseError.Memory alloc_error) }
     // Nothing derives what is refused.
     ensures refused { (at : ℕ) → IsErrOf result (ParseError.Syntax at) → (type : NameOfType) → DerivesTypeName text.now tokens.now typedefs.now type → ⊥ }
+    // A refusal names a token, or the end of them.
+    ensures within { (at : ℕ) → IsErrOf result (ParseError.Syntax at) → at ≤ length tokens.now }
+    ensures shallow { IfOk result (λ type. depth_of_type_phrase type.phrase ≤ max_depth) }
 {
     law_readers();
-    let found = lone_type(alloc, text, tokens, typedefs)?;
-    Ok(found)
+    law_texts();
+    law_depths();
+    let found = texts_with_typedefs(alloc, text, tokens, typedefs)?;
+    let phrase = lone_phrase(alloc, text, tokens, &found.texts, &found.typedefs)?;
+    Ok(TypeName {
+        phrase,
+        texts: found.texts,
+    })
 }

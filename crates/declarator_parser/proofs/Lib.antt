@@ -1,5 +1,6 @@
 pub mod Depths
 pub mod Parts
+pub mod Spellings
 pub mod ListSteps
 pub mod RoleCounts
 pub mod SpecifierLoop

@@ -8,9 +8,8 @@ use Rattle.c_grammar.specs.declared.phrases.Declarator.{Declarator}
 use Rattle.c_grammar.specs.declared.phrases.Parameter.{Parameter}
 use Rattle.c_grammar.specs.declared.phrases.Member.{Member}
 use Rattle.c_grammar.specs.declared.phrases.Enumerator.{Enumerator}
-use Rattle.c_grammar.specs.Tokens.{Name}
-use Rattle.c_grammar.specs.Scope.{Scope}
-use Rattle.grammar_descent.specs.Reading.{State, Reading, Readers, named, sees, mark_at, past}
+use Rattle.c_grammar.specs.declared.words.Naming.TheVariants as naming
+use Rattle.grammar_descent.specs.Reading.{State, Reading, Readers, FoundDeclarator, sees, mark_at, past}
 use Rattle.grammar_descent.specs.DeclaratorSteps.{parameter_at, some_parameters}
 use Rattle.grammar_descent.specs.SpecifierSteps.{declarators, member_at, members, enumerator_at, enumerators}
 
@@ -39,19 +38,19 @@ module _ (text : List ℕ) (ts : List Token) (inner : Readers) where
   -- ---- declarators
 
   pub declarators_none : (x : Option ((List Declarator × ℕ) × State)) (n : ℕ) (found : List Declarator) (high : ℕ) (s : State) →
-      x ≡ declarators text ts inner (suc n) found high s → inner.declarator named s ≡ None → x ≡ None
+      x ≡ declarators text ts inner (suc n) found high s → inner.declarator naming.Named s ≡ None → x ≡ None
   unfolding declarators
   declarators_none x n found high s e is = e ∙ rw is refl
 
-  pub declarators_last : (x : Option ((List Declarator × ℕ) × State)) (n : ℕ) (found : List Declarator) (high : ℕ) (s t : State) (a : Declarator) (name : Option Name) (own : Option Scope) (height : ℕ) →
-      x ≡ declarators text ts inner (suc n) found high s → inner.declarator named s ≡ Some ((a, name, own, height), t) → mark_at ts t.at mark.Comma ≡ false → x ≡ Some ((found ++ a ∷ [], max high height), t)
+  pub declarators_last : (x : Option ((List Declarator × ℕ) × State)) (n : ℕ) (found : List Declarator) (high : ℕ) (s t : State) (a : FoundDeclarator) →
+      x ≡ declarators text ts inner (suc n) found high s → inner.declarator naming.Named s ≡ Some (a, t) → mark_at ts t.at mark.Comma ≡ false → x ≡ Some ((found ++ a.node ∷ [], max high a.height), t)
   unfolding declarators
-  declarators_last x n found high s t a name own height e is last = e ∙ rw (is, last) refl
+  declarators_last x n found high s t a e is last = e ∙ rw (is, last) refl
 
-  pub declarators_more : (x : Option ((List Declarator × ℕ) × State)) (n : ℕ) (found : List Declarator) (high : ℕ) (s t : State) (a : Declarator) (name : Option Name) (own : Option Scope) (height : ℕ) →
-      x ≡ declarators text ts inner (suc n) found high s → inner.declarator named s ≡ Some ((a, name, own, height), t) → mark_at ts t.at mark.Comma ≡ true → x ≡ declarators text ts inner n (found ++ a ∷ []) (max high height) (past t 1)
+  pub declarators_more : (x : Option ((List Declarator × ℕ) × State)) (n : ℕ) (found : List Declarator) (high : ℕ) (s t : State) (a : FoundDeclarator) →
+      x ≡ declarators text ts inner (suc n) found high s → inner.declarator naming.Named s ≡ Some (a, t) → mark_at ts t.at mark.Comma ≡ true → x ≡ declarators text ts inner n (found ++ a.node ∷ []) (max high a.height) (past t 1)
   unfolding declarators
-  declarators_more x n found high s t a name own height e is more = e ∙ rw (is, more) refl
+  declarators_more x n found high s t a e is more = e ∙ rw (is, more) refl
 
   pub declarators_zero : (found : List Declarator) (high : ℕ) (s : State) → declarators text ts inner 0 found high s ≡ None
   unfolding declarators

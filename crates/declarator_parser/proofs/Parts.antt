@@ -2,6 +2,7 @@
 use Rattle.std.proofs.Common.{◌≡◌, ◌∙◌, ℕ, zero, suc, ◌+◌, ◌-◌, ◌<◌, ◌≤◌, max, nat_lt, Bool, true, false, List, [], ◌∷◌, ◌++◌, length, take, drop, Option, Some, None, Result, if◌then◌else◌, refl, sym, ap, subst, arith}
 use Rattle.std.proofs.lemmas.Grind.{common_steps}
 use Rattle.std.proofs.lemmas.Bool.Decides.{nat_tests}
+use Rattle.c_tokens.specs.declared.kind.Kind.TheVariants as token_kind
 use Rattle.c_tokens.specs.declared.kind.Keyword.TheVariants as word
 use Rattle.c_tokens.specs.declared.kind.Mark.TheVariants as mark
 use Rattle.c_tokens.specs.declared.token.Token.{Token}
@@ -11,25 +12,35 @@ use Rattle.c_grammar.specs.declared.phrases.Specs.{Specs}
 use Rattle.c_grammar.specs.declared.phrases.Declarator.{Declarator}
 use Rattle.c_grammar.specs.declared.phrases.Expression.{Expression}
 use Rattle.c_grammar.specs.declared.phrases.Parameter.{Parameter}
-use Rattle.c_grammar.specs.Tokens.{Name, place_at}
+use Rattle.c_tokens.specs.Names.{Name}
+use Rattle.c_grammar.specs.Tokens.{kind_at, place_at}
 use Rattle.c_grammar.specs.declared.phrases.Declarator.TheVariants as d
-use Rattle.c_grammar.specs.Operators.{conditional}
-use Rattle.c_grammar.specs.Words.{Role}
+use Rattle.c_grammar.specs.declared.words.Level.TheVariants as of
+use Rattle.c_grammar.specs.Operators.{tightness}
 use Rattle.c_grammar.specs.Scope.{Scope, first_of}
-use Rattle.grammar_descent.specs.Reading.{State, Reading, Readers, FoundDeclarator, ◌>>=◌, named_or_not, word_at, mark_at, past}
+use Rattle.grammar_descent.specs.Reading.{State, Reading, Readers, FoundDeclarator, ◌>>=◌, sees, word_at, mark_at, past}
+use Rattle.grammar_descent.proofs.Seen.{stands}
 use Rattle.grammar_descent.specs.Exact.{Grows}
-use Rattle.grammar_descent.specs.DeclaratorSteps.{qualifiers, with_name, parameter_at, some_parameters, parts_behind, array_behind, function_behind, joined, parameters_at, new_since}
-use Rattle.declarator_parser.specs.Parts.{qualifier_at, part_at, part_behind}
+use Rattle.grammar_descent.specs.DeclaratorSteps.{qualifiers, with_parameter, parts_after, array_after, function_after, declarator_within, parameters_at, new_since}
+use Rattle.declarator_parser.specs.Parts.{qualifier_at, part_at, part_after}
 use Rattle.declarator_parser.specs.declared.declarators.Part.{Part}
 use Rattle.declarator_parser.specs.declared.declarators.Part.TheVariants as part
 use Rattle.token_reader.specs.declared.error.ParseError.{ParseError}
 use Rattle.token_reader.specs.Input.{Input, Gives, Reads}
+use Rattle.token_reader.specs.Reader.{moved}
+use Rattle.token_reader.specs.Found.{spelled_found}
+use Rattle.token_reader.specs.declared.found.FoundDeclarator.{FoundDeclarator as Numbered}
+use Rattle.token_texts.specs.Texts.{Texts}
 
 pub one_more : {X : Type 0} {x : X} (f : ℕ → X) (n at : ℕ) → at < n → x ≡ f (n - at) → x ≡ f (suc (n - (at + 1)))
 one_more f n at below e = let turn : n - at ≡ suc (n - (at + 1)) = omega arith in e ∙ ap f turn
 
 pub no_more : {X : Type 0} {x : X} (f : ℕ → X) (n at : ℕ) → n ≤ at → x ≡ f (n - at) → x ≡ f 0
 no_more f n at done e = let none : n - at ≡ 0 = omega arith in e ∙ ap f none
+
+-- a name that is seen
+pub name_there : (ts : List Token) (at : ℕ) → sees ts at token_kind.Name ≡ true → kind_at ts at ≡ Some token_kind.Name
+name_there ts at h = stands ts at token_kind.Name h
 
 -- ---- qualifiers
 
@@ -61,9 +72,13 @@ grows_on a b c h k = record { new = k.new ++ h.new; is = grind (arith, common_st
 pub grows_not : (a : Scope) → Grows a a
 grows_not a = record { new = []; is = refl }
 
-pub grows_name : (roles : List Role) (name : Option Name) (s : State) → Grows s.scope (with_name roles name s).scope
-grows_name roles (Some name) s = record { new = _ ∷ []; is = refl }
-grows_name roles None s = record { new = []; is = refl }
+pub grows_parameter : (name : Option Name) (s : State) → Grows s.scope (with_parameter name s).scope
+grows_parameter (Some name) s = record { new = _ ∷ []; is = refl }
+grows_parameter None s = record { new = []; is = refl }
+
+pub grows_moved : (before : Scope) (i j : Input) (name : Option Name) → Grows before i.state.scope → j ≡ moved i (with_parameter name i.state) → Grows before j.state.scope
+grows_moved before i j name h e =
+    subst (λ (x : Input). Grows before x.state.scope) (sym e) (grows_on before i.state.scope (with_parameter name i.state).scope h (grows_parameter name i.state))
 
 pub taken : (before after : Scope) → Grows before after → drop (length after - length before) after ≡ before
 taken before after h = along after h.new h.is
@@ -89,67 +104,58 @@ both-none : {A : Type 0} (b : Bool) (x y : Option A) → x ≡ None → y ≡ No
 both-none true x y e k = e
 both-none false x y e k = k
 
-joined-high : (depth : ℕ) (node : Declarator) (name : Option Name) (own : Option Scope) (high : ℕ) (s : State) → depth ≤ high →
-    joined depth node name own high s ≡ None
-joined-high depth node name own high s h = let below : nat_lt high depth ≡ false = grind (arith, nat_tests) in
-    ap (λ b. if b then Some ((node, name, own, high + 1), s) else None) below
+within-high : (depth : ℕ) (node : Declarator) (name : Option Name) (own : Option Scope) (high : ℕ) (s : State) → depth ≤ high →
+    declarator_within depth node name own high s ≡ None
+within-high depth node name own high s h = let below : nat_lt high depth ≡ false = grind (arith, nat_tests) in
+    ap (λ b. if b then Some (let f : FoundDeclarator = record { node = node; name = name; own = own; height = high + 1 } in (f, s)) else None) below
 
 module _ (text : List ℕ) (ts : List Token) (inner : Readers) (depth start : ℕ) where
-  array-high : (f : FoundDeclarator) (s : State) → depth ≤ f.3 → array_behind text ts inner depth start f s ≡ None
-  unfolding array_behind
-  array-high f s h = both-none (mark_at ts (s.at + 1) mark.RightBracket) _ _ (joined-high depth _ _ _ f.3 _ h)
-      (bind-none (inner.expression conditional (past s 1)) _ (λ (size : (Expression × ℕ) × State). both-none (mark_at ts size.1.at mark.RightBracket) _ _
-      (let k : depth ≤ max f.3 size.0.1 = omega arith in
-      joined-high depth (d.Array (place_at ts start) f.0 (Some size.0.0)) f.1 f.2 (max f.3 size.0.1) (past size.1 1) k) refl))
+  pub array-high : (f : FoundDeclarator) (s : State) → depth ≤ f.height → array_after text ts inner depth start f s ≡ None
+  unfolding array_after
+  array-high f s h = both-none (mark_at ts (s.at + 1) mark.RightBracket) _ _ (within-high depth _ _ _ f.height _ h)
+      (bind-none (inner.expression (tightness of.Conditional) (past s 1)) _ (λ (size : (Expression × ℕ) × State). both-none (mark_at ts size.1.at mark.RightBracket) _ _
+      (let k : depth ≤ max f.height size.0.1 = omega arith in
+      within-high depth (d.Array (place_at ts start) f.node (Some size.0.0)) f.name f.own (max f.height size.0.1) (past size.1 1) k) refl))
 
-  function-high : (f : FoundDeclarator) (s : State) → depth ≤ f.3 → function_behind text ts inner depth start f s ≡ None
-  unfolding function_behind
+  pub function-high : (f : FoundDeclarator) (s : State) → depth ≤ f.height → function_after text ts inner depth start f s ≡ None
+  unfolding function_after
   function-high f s h = bind-none (parameters_at text ts inner (past s 1)) _ (λ (p : (List Parameter × ℕ) × State). both-none (mark_at ts p.1.at mark.RightParen) _ _
-      (let k : depth ≤ max f.3 p.0.1 = omega arith in
-      joined-high depth (d.Function (place_at ts start) f.0 p.0.0) f.1 (first_of f.2 (new_since s.scope p.1.scope)) (max f.3 p.0.1)
+      (let k : depth ≤ max f.height p.0.1 = omega arith in
+      within-high depth (d.Function (place_at ts start) f.node p.0.0) f.name (first_of f.own (new_since s.scope p.1.scope)) (max f.height p.0.1)
       (record { at = p.1.at + 1; scope = s.scope }) k) refl)
 
   abbrev pub parted : ℕ → FoundDeclarator → State → Option Part → Option (FoundDeclarator × State)
-  parted n f s (Some part) = part_behind part text ts inner depth start f s >>= λ g. parts_behind text ts inner depth start n g.0 g.1
+  parted n f s (Some part) = part_after part text ts inner depth start f s >>= λ g. parts_after text ts inner depth start n g.0 g.1
   parted n f s None = Some (f, s)
 
-  parts-suc : (n : ℕ) (f : FoundDeclarator) (s : State) → parts_behind text ts inner depth start (suc n) f s ≡ parted n f s (part_at ts s.at)
-  unfolding parts_behind part_at
+  parts-suc : (n : ℕ) (f : FoundDeclarator) (s : State) → parts_after text ts inner depth start (suc n) f s ≡ parted n f s (part_at ts s.at)
+  unfolding parts_after part_at
   parts-suc n f s = by_tests (mark_at ts s.at mark.LeftBracket) (mark_at ts s.at mark.LeftParen)
     where
       by_tests : (a b : Bool) →
-          (if a then (array_behind text ts inner depth start f s >>= λ g. parts_behind text ts inner depth start n g.0 g.1)
-          else if b then (function_behind text ts inner depth start f s >>= λ g. parts_behind text ts inner depth start n g.0 g.1)
+          (if a then (array_after text ts inner depth start f s >>= λ g. parts_after text ts inner depth start n g.0 g.1)
+          else if b then (function_after text ts inner depth start f s >>= λ g. parts_after text ts inner depth start n g.0 g.1)
           else Some (f, s)) ≡ parted n f s (if a then Some part.Array else if b then Some part.Function else None)
       by_tests true b = refl
       by_tests false true = refl
       by_tests false false = refl
 
-  part-high : (part : Part) (f : FoundDeclarator) (s : State) → depth ≤ f.3 → part_behind part text ts inner depth start f s ≡ None
-  part-high part.Array f s high = array-high f s high
-  part-high part.Function f s high = function-high f s high
-
-  pub parts_done : (x : Option (FoundDeclarator × State)) (n : ℕ) (f : FoundDeclarator) (s : State) → x ≡ parts_behind text ts inner depth start (suc n) f s →
+  pub parts_done : (x : Option (FoundDeclarator × State)) (n : ℕ) (f : FoundDeclarator) (s : State) → x ≡ parts_after text ts inner depth start (suc n) f s →
       part_at ts s.at ≡ None → x ≡ Some (f, s)
   parts_done x n f s e is = e ∙ parts-suc n f s ∙ ap (parted n f s) is
 
-  pub parts_high : (x : Option (FoundDeclarator × State)) (n : ℕ) (f : FoundDeclarator) (s : State) (part : Part) → x ≡ parts_behind text ts inner depth start (suc n) f s →
-      part_at ts s.at ≡ Some part → depth ≤ f.3 → x ≡ None
-  parts_high x n f s part e is high = e ∙ parts-suc n f s ∙ ap (parted n f s) is
-      ∙ ap (λ o. o >>= λ (g : FoundDeclarator × State). parts_behind text ts inner depth start n g.0 g.1) (part-high part f s high)
-
-  pub parts_fail : (x : Option (FoundDeclarator × State)) (n : ℕ) (f : FoundDeclarator) (s : State) (part : Part) → x ≡ parts_behind text ts inner depth start (suc n) f s →
-      part_at ts s.at ≡ Some part → part_behind part text ts inner depth start f s ≡ None → x ≡ None
+  pub parts_fail : (x : Option (FoundDeclarator × State)) (n : ℕ) (f : FoundDeclarator) (s : State) (part : Part) → x ≡ parts_after text ts inner depth start (suc n) f s →
+      part_at ts s.at ≡ Some part → part_after part text ts inner depth start f s ≡ None → x ≡ None
   parts_fail x n f s part e is none = e ∙ parts-suc n f s ∙ ap (parted n f s) is
-      ∙ ap (λ o. o >>= λ (g : FoundDeclarator × State). parts_behind text ts inner depth start n g.0 g.1) none
+      ∙ ap (λ o. o >>= λ (g : FoundDeclarator × State). parts_after text ts inner depth start n g.0 g.1) none
 
-  pub parts_more : (x : Option (FoundDeclarator × State)) (n : ℕ) (f g : FoundDeclarator) (s t : State) (part : Part) → x ≡ parts_behind text ts inner depth start (suc n) f s →
-      part_at ts s.at ≡ Some part → part_behind part text ts inner depth start f s ≡ Some (g, t) → x ≡ parts_behind text ts inner depth start n g t
+  pub parts_more : (x : Option (FoundDeclarator × State)) (n : ℕ) (f g : FoundDeclarator) (s t : State) (part : Part) → x ≡ parts_after text ts inner depth start (suc n) f s →
+      part_at ts s.at ≡ Some part → part_after part text ts inner depth start f s ≡ Some (g, t) → x ≡ parts_after text ts inner depth start n g t
   parts_more x n f g s t part e is some = e ∙ parts-suc n f s ∙ ap (parted n f s) is
-      ∙ ap (λ o. o >>= λ (h : FoundDeclarator × State). parts_behind text ts inner depth start n h.0 h.1) some
+      ∙ ap (λ o. o >>= λ (h : FoundDeclarator × State). parts_after text ts inner depth start n h.0 h.1) some
 
-  pub parts-zero : (f : FoundDeclarator) (s : State) → parts_behind text ts inner depth start 0 f s ≡ Some (f, s)
-  unfolding parts_behind
+  pub parts-zero : (f : FoundDeclarator) (s : State) → parts_after text ts inner depth start 0 f s ≡ Some (f, s)
+  unfolding parts_after
   parts-zero f s = refl
 
 -- what is read from a reader whose text is known
@@ -158,3 +164,11 @@ pub reads-at : {A : Type 0} (read : List ℕ → List Token → Reading A) (befo
 reads-at read before after r text ts e k h =
     subst (λ (y : List Token). Gives r after.state (read text y before.state)) k
     (subst (λ (x : List ℕ). Gives r after.state (read x before.tokens before.state)) e h.answer)
+
+-- the same of a declarator, which is read from a reader with a known table of names
+pub declarator_reads-at : (read : Texts → List ℕ → List Token → Reading FoundDeclarator) (before after : Input) (r : Result Numbered ParseError)
+    (text : List ℕ) (ts : List Token) (texts : Texts) → before.text ≡ text → before.tokens ≡ ts → before.texts ≡ texts →
+    Reads (read before.texts) before (spelled_found before.texts r) after → Gives (spelled_found texts r) after.state (read texts text ts before.state)
+declarator_reads-at read before after r text ts texts e k same h =
+    subst (λ (x : Texts). Gives (spelled_found x r) after.state (read x text ts before.state)) same
+    (reads-at (read before.texts) before after (spelled_found before.texts r) text ts e k h)

@@ -8,16 +8,18 @@ use Rattle.c_grammar.specs.declared.words.BasicWord.TheVariants as b
 use Rattle.c_grammar.specs.contracts.words.BasicWord.{the_type}
 use Rattle.c_grammar.specs.declared.phrases.Specifier.{Specifier}
 use Rattle.c_grammar.specs.Words.{Role, names_types, modifies, spells, is_type, basic_words, whole_types}
-use Rattle.c_grammar.specs.Scope.{Use, a_type, no_type, use_of}
+use Rattle.c_grammar.specs.declared.words.NameKind.{NameKind}
+use Rattle.c_grammar.specs.declared.words.NameKind.TheVariants as kind
+use Rattle.c_grammar.specs.Scope.{declared_kind}
 use denote.Enum.Bare.{sameb}
 use Rattle.c_grammar.specs.declared.words.BasicType.{BasicType}
 use Rattle.grammar_descent.specs.Reading.{◌>>=◌}
 use Rattle.grammar_descent.specs.TypeWords.{times, holds_no_type, are_none, Sign, sign_of, type_of, spelled_type, holds_one_type}
 use Rattle.declarator_parser.specs.Roles.{role_of, roles_of, spells_word, is_whole, is_of_type, is_basic, makes_types}
 
-abbrev pub use_by : Bool → Use
-use_by true = a_type
-use_by false = no_type
+abbrev pub kind_by : Bool → NameKind
+kind_by true = kind.Type
+kind_by false = kind.Ordinary
 
 one_more : (b : Bool) (n : ℕ) → cond b (suc n) n ≡ cond b (1 + n) n
 one_more true n = omega arith
@@ -73,13 +75,13 @@ pub some-basic : (words : List Specifier) → list_any (λ (w : Specifier). is_b
 some-basic [] = refl
 some-basic (w ∷ words) = basic-first (role_of w) (roles_of words) (list_any (λ (x : Specifier). is_basic (role_of x)) words) (some-basic words)
 
-types-first : (role : Role) (roles : List Role) (rest : Bool) → use_of roles ≡ use_by rest → use_of (role ∷ roles) ≡ use_by (makes_types role || rest)
+types-first : (role : Role) (roles : List Role) (rest : Bool) → declared_kind roles ≡ kind_by rest → declared_kind (role ∷ roles) ≡ kind_by (makes_types role || rest)
 types-first names_types roles rest e = refl
 types-first modifies roles rest e = e
 types-first (spells w) roles rest e = e
 types-first is_type roles rest e = e
 
-pub some-makes_types : (words : List Specifier) → use_of (roles_of words) ≡ use_by (list_any (λ (w : Specifier). makes_types (role_of w)) words)
+pub some-makes_types : (words : List Specifier) → declared_kind (roles_of words) ≡ kind_by (list_any (λ (w : Specifier). makes_types (role_of w)) words)
 some-makes_types [] = refl
 some-makes_types (w ∷ words) = types-first (role_of w) (roles_of words) (list_any (λ (x : Specifier). makes_types (role_of x)) words) (some-makes_types words)
 
@@ -105,35 +107,19 @@ some-here n false e = grind (arith, nat_tests)
 pub some-counted : (p : Specifier → Bool) (words : List Specifier) → nat_lt 0 (count_by p words) ≡ list_any p words
 some-counted p words = some-here (count_by p words) (list_any p words) (none-counted p words)
 
-pub no_type-none : (words : List Specifier) → count_by (λ (w : Specifier). makes_types (role_of w)) words ≡ 0 → use_of (roles_of words) ≡ no_type
+pub no_type-none : (words : List Specifier) → count_by (λ (w : Specifier). makes_types (role_of w)) words ≡ 0 → declared_kind (roles_of words) ≡ kind.Ordinary
 no_type-none words none = some-makes_types words ∙ by_test _ _ none (none-counted (λ (w : Specifier). makes_types (role_of w)) words)
   where
-    by_test : (n : ℕ) (b : Bool) → n ≡ 0 → (n == 0) ≡ not b → use_by b ≡ no_type
+    by_test : (n : ℕ) (b : Bool) → n ≡ 0 → (n == 0) ≡ not b → kind_by b ≡ kind.Ordinary
     by_test n true z e = grind (arith, nat_tests)
     by_test n false z e = refl
 
-pub a_type-some : (words : List Specifier) → (count_by (λ (w : Specifier). makes_types (role_of w)) words ≡ 0 → ⊥) → use_of (roles_of words) ≡ a_type
+pub a_type-some : (words : List Specifier) → (count_by (λ (w : Specifier). makes_types (role_of w)) words ≡ 0 → ⊥) → declared_kind (roles_of words) ≡ kind.Type
 a_type-some words some = some-makes_types words ∙ by_test _ _ some (none-counted (λ (w : Specifier). makes_types (role_of w)) words)
   where
-    by_test : (n : ℕ) (b : Bool) → (n ≡ 0 → ⊥) → (n == 0) ≡ not b → use_by b ≡ a_type
+    by_test : (n : ℕ) (b : Bool) → (n ≡ 0 → ⊥) → (n == 0) ≡ not b → kind_by b ≡ kind.Type
     by_test n true z e = refl
     by_test n false z e = grind (arith, nat_tests)
-
--- which signs stand, and what the other words come to with them
-pub with_signs : (m n : ℕ) (type : Sign → Option BasicType) (fit : Bool) → is_some (sign_of m n) ≡ true →
-    ((sign : Sign) → sign_of m n ≡ Some sign → fit ≡ is_some (type sign)) → fit ≡ is_some (sign_of m n >>= type)
-with_signs m n type fit some fits = by_sign (sign_of m n) some fits
-  where
-    by_sign : (o : Option Sign) → is_some o ≡ true → ((sign : Sign) → o ≡ Some sign → fit ≡ is_some (type sign)) → fit ≡ is_some (o >>= type)
-    by_sign (Some sign) some fits = fits sign refl
-    by_sign None some fits = cc
-
-pub without_signs : (m n : ℕ) (type : Sign → Option BasicType) → is_some (sign_of m n) ≡ false → false ≡ is_some (sign_of m n >>= type)
-without_signs m n type none = by_sign (sign_of m n) none
-  where
-    by_sign : (o : Option Sign) → is_some o ≡ false → false ≡ is_some (o >>= type)
-    by_sign (Some sign) none = cc
-    by_sign None none = refl
 
 pub whole-none : (roles : List Role) (fit : Bool) → whole_types roles ≡ 0 → fit ≡ is_some (spelled_type (basic_words roles)) → fit ≡ holds_one_type roles
 unfolding holds_one_type
@@ -164,28 +150,25 @@ whole-more roles z o = by_test (is_some (spelled_type (basic_words roles))) (are
     by_test false true n z o = grind (arith, nat_tests)
     by_test false false n z o = refl
 
-pub spelled : (words : List BasicWord) (m n v c s i l : ℕ) (fit : Bool) → m ≡ times b.Signed words → n ≡ times b.Unsigned words →
+pub spelled : (words : List BasicWord) (m n v c s i l : ℕ) (sign : Sign) → m ≡ times b.Signed words → n ≡ times b.Unsigned words →
     v ≡ times b.Void words → c ≡ times b.Char words → s ≡ times b.Short words → i ≡ times b.Int words → l ≡ times b.Long words →
-    is_some (sign_of m n) ≡ true → ((sign : Sign) → sign_of m n ≡ Some sign → fit ≡ is_some (type_of v c s i l sign)) →
-    fit ≡ is_some (spelled_type words)
+    sign_of m n ≡ Some sign → type_of v c s i l sign ≡ spelled_type words
 unfolding spelled_type
-spelled words m n v c s i l fit em en ev ec es ei el some fits =
-    with_signs m n (type_of v c s i l) fit some fits
-    ∙ ap (λ o. is_some (o >>= type_of v c s i l)) (ap (λ k. sign_of k n) em ∙ ap (λ k. sign_of (times b.Signed words) k) en)
-    ∙ ap (λ f. is_some (sign_of (times b.Signed words) (times b.Unsigned words) >>= f)) (same_counts words v c s i l ev ec es ei el)
+spelled words m n v c s i l sign em en ev ec es ei el is =
+    ap (λ o. o >>= type_of v c s i l) (sym is)
+    ∙ ap (λ o. o >>= type_of v c s i l) (ap (λ k. sign_of k n) em ∙ ap (λ k. sign_of (times b.Signed words) k) en)
+    ∙ ap (λ f. sign_of (times b.Signed words) (times b.Unsigned words) >>= f) (same_counts words v c s i l ev ec es ei el)
   where
     same_counts : (words : List BasicWord) (v c s i l : ℕ) → v ≡ times b.Void words → c ≡ times b.Char words → s ≡ times b.Short words →
         i ≡ times b.Int words → l ≡ times b.Long words →
         type_of v c s i l ≡ type_of (times b.Void words) (times b.Char words) (times b.Short words) (times b.Int words) (times b.Long words)
     same_counts words v c s i l ev ec es ei el = rw (ev, ec, es, ei, el) refl
 
-pub not_spelled : (words : List BasicWord) (m n : ℕ) → m ≡ times b.Signed words → n ≡ times b.Unsigned words → is_some (sign_of m n) ≡ false →
-    false ≡ is_some (spelled_type words)
+pub not_spelled : (words : List BasicWord) (m n : ℕ) → m ≡ times b.Signed words → n ≡ times b.Unsigned words → sign_of m n ≡ None → None ≡ spelled_type words
 unfolding spelled_type
 not_spelled words m n em en none =
-    without_signs m n (type_of (times b.Void words) (times b.Char words) (times b.Short words) (times b.Int words) (times b.Long words)) none
-    ∙ ap (λ o. is_some (o >>= type_of (times b.Void words) (times b.Char words) (times b.Short words) (times b.Int words) (times b.Long words)))
-    (ap (λ k. sign_of k n) em ∙ ap (λ k. sign_of (times b.Signed words) k) en)
+    ap (λ o. o >>= type_of (times b.Void words) (times b.Char words) (times b.Short words) (times b.Int words) (times b.Long words))
+    (sym none ∙ ap (λ k. sign_of k n) em ∙ ap (λ k. sign_of (times b.Signed words) k) en)
 
 pub not_one : (n : ℕ) → (n ≡ 1 → ⊥) → (n == 1) ≡ false
 not_one n other = grind (arith, nat_tests)

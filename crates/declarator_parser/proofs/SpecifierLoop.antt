@@ -4,11 +4,10 @@ use Rattle.c_tokens.specs.declared.token.Token.{Token}
 use Rattle.c_grammar.specs.declared.phrases.Expression.{Expression}
 use Rattle.c_grammar.specs.declared.phrases.Specifier.{Specifier}
 use Rattle.c_grammar.specs.declared.words.Aggregate.{Aggregate}
-use Rattle.c_grammar.specs.Tokens.{Name}
 use Rattle.c_grammar.specs.Words.{Role}
 use Rattle.grammar_descent.specs.Reading.{State, Reading, Readers, ◌>>=◌, mark_at, past}
 use Rattle.grammar_descent.specs.NextReaders.{no_readers}
-use Rattle.grammar_descent.specs.SpecifierSteps.{Lead, lead_at, led, one_specifier, specifiers, members, member_at, members_behind}
+use Rattle.grammar_descent.specs.SpecifierSteps.{Lead, lead_at, one_specifier, specifiers, members, member_at, members_after}
 use Rattle.c_tokens.specs.declared.kind.Mark.TheVariants as mark
 use Rattle.declarator_parser.specs.Below.{below}
 use Rattle.declarator_parser.specs.Lists.{braced_members}
@@ -53,15 +52,15 @@ unfolding members member_at
 no_members_read text ts zero s = refl
 no_members_read text ts (suc n) s = refl
 
-pub no_members : (text : List ℕ) (ts : List Token) (which : Aggregate) (tag : Option Name) (start : ℕ) (s : State) →
-    members_behind text ts no_readers which tag start s ≡ None
-unfolding members_behind
+pub no_members : (text : List ℕ) (ts : List Token) (which : Aggregate) (tag : Option ℕ) (start : ℕ) (s : State) →
+    members_after text ts no_readers which tag start s ≡ None
+unfolding members_after
 no_members text ts which tag start s = rw (no_members_read text ts (length ts) s) refl
 
-pub no_braced : (depth : ℕ) (text : List ℕ) (ts : List Token) (which : Aggregate) (tag : Option Name) (start : ℕ) (s : State) → depth ≡ 0 →
+pub no_braced : (depth : ℕ) (text : List ℕ) (ts : List Token) (which : Aggregate) (tag : Option ℕ) (start : ℕ) (s : State) → depth ≡ 0 →
     braced_members text ts (below text ts depth) which tag start s ≡ None
 no_braced depth text ts which tag start s e = rw (below-none text ts depth e) (by_test (mark_at ts s.at mark.LeftBrace))
   where
-    by_test : (b : Bool) → (if b then members_behind text ts no_readers which tag start (past s 1) else None) ≡ None
+    by_test : (b : Bool) → (if b then members_after text ts no_readers which tag start (past s 1) else None) ≡ None
     by_test true = no_members text ts which tag start (past s 1)
     by_test false = refl

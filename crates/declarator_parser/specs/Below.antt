@@ -7,9 +7,12 @@ use Rattle.grammar_descent.specs.Reading.{Readers}
 use Rattle.grammar_descent.specs.NextReaders.{no_readers}
 use Rattle.grammar_descent.specs.AllReaders.{readers}
 use Rattle.token_reader.specs.declared.error.ParseError.{ParseError}
-use Rattle.token_reader.specs.declared.naming.Naming.{Naming}
+use Rattle.c_grammar.specs.declared.words.Level.{Level}
+use Rattle.c_grammar.specs.declared.words.Naming.{Naming}
 use Rattle.token_reader.specs.Input.{Input}
-use Rattle.token_reader.specs.Nests.{NestsExpressions, Nests, FoundExpression, FoundSpecs, FoundDeclarator}
+use Rattle.token_reader.specs.declared.found.FoundSpecs.{FoundSpecs}
+use Rattle.token_reader.specs.declared.found.FoundDeclarator.{FoundDeclarator}
+use Rattle.token_reader.specs.Nests.{NestsExpressions, Nests, FoundExpression}
 
 -- the readers of one depth less, which find nothing where there is none
 unfoldable pub below : List ℕ → List Token → ℕ → Readers
@@ -18,8 +21,8 @@ below text ts (suc depth) = readers text ts depth
 
 -- The values of enumeration constants are expressions of the depth itself, and all else is nested less deep.
 pub record NestsBelow (depth : ℕ)
-    (pre_expression : Global → MutBor Input → ℕ → ℕ → Type 0)
-    (post_expression : Global → MutBor Input → ℕ → ℕ → Result FoundExpression ParseError → MutBor Input → Type 0)
+    (pre_expression : Global → MutBor Input → ℕ → Level → Type 0)
+    (post_expression : Global → MutBor Input → ℕ → Level → Result FoundExpression ParseError → MutBor Input → Type 0)
     (pre_specs : Global → MutBor Input → ℕ → Type 0)
     (post_specs : Global → MutBor Input → ℕ → Result FoundSpecs ParseError → MutBor Input → Type 0)
     (pre_declarator : Global → MutBor Input → ℕ → Naming → Type 0)

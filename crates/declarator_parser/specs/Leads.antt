@@ -10,7 +10,7 @@ one_lead (lead.Qualifier which) = reads.qualifier_word which
 one_lead (lead.Basic which) = reads.basic_word which
 one_lead (lead.Aggregate which) = reads.aggregate_word which
 one_lead lead.Enumeration = reads.enum_word
-one_lead lead.TypeName = reads.type_name
+one_lead lead.TypedefName = reads.typedef_name
 
 abbrev pub as_lead : Option Lead → Option reads.Lead
 as_lead (Some lead) = Some (one_lead lead)

@@ -1,23 +1,25 @@
 //! Declarators, read by descent (C11 6.7.6 and 6.7.7).
 
-ghost use Rattle.std.specs.Prelude.{◌≡◌, ◌<◌, ◌≤◌, ◌+◌, [], Some, None, length, IfOk, OnSome};
+ghost use Rattle.std.specs.Prelude.{◌≡◌, ◌<◌, ◌≤◌, ◌+◌, [], Some, None, max, length, IfOk, OnSome};
+ghost use Rattle.c_tokens.specs.Limits.{max_tokens};
+ghost use Rattle.c_tokens.specs.declared.kind.Kind.TheVariants as kind;
+ghost use Rattle.c_grammar.specs.Tokens.{kind_at};
 ghost use Rattle.grammar_descent.specs.AllReaders.{readers};
 ghost use Rattle.grammar_descent.specs.DeclaratorSteps as spec;
 ghost use Rattle.declarator_parser.specs.Below.{below, NestsBelow};
 ghost use Rattle.token_reader.specs.Input.{Reads};
-ghost use Rattle.token_reader.specs.Naming.{as_naming};
-ghost use Rattle.declarator_parser.specs.Parts.{qualifier_at, part_at, part_behind};
+ghost use Rattle.token_reader.specs.Found.{spelled_declarator, spelled_found, HasSpelling, ReadsDeclarator};
+ghost use Rattle.token_reader.specs.Reader.{IsSameText};
+ghost use Rattle.declarator_parser.specs.Parts.{qualifier_at, part_at, part_after};
 
 use crate::declaring::Declaring;
-use c_grammar::{Declarator, Expression, Place, Qualifier};
+use c_grammar::{Declarator, Expression, Level, Naming, Place, Qualifier};
 use c_tokens::{Keyword, Kind, Mark};
 use sqlite_items::{Boxed, Items};
 use std::alloc::{AllocError, Global};
-use token_reader::{
-    FoundDeclarator, FoundExpression, FoundSpecs, Naming, ParseError, Reader, refused_at,
-};
+use token_reader::{FoundDeclarator, FoundExpression, FoundSpecs, ParseError, Reader, refused_at};
 
-/// The qualifier that stands next, of those that may stand behind a `*`.
+/// The qualifier that stands next, of those that may stand after a `*`.
 #[tactic(auto, unfolding(crate::specs::Parts::qualifier_at))]
 fn next_qualifier(reader: &Reader<'_>) -> Option<Qualifier>
     ensures value { result ≡ qualifier_at reader.now.tokens reader.now.state.at }
@@ -32,11 +34,10 @@ fn next_qualifier(reader: &Reader<'_>) -> Option<Qualifier>
     }
 }
 
-/// `const` and `restrict` behind a `*`.
+/// `const` and `restrict` after a `*`.
 fn qualifiers(alloc: Global, reader: &mut Reader<'_>) -> Result<Items<Qualifier>, AllocError>
     ensures value { IfOk result (λ found. spec.qualifiers reader.old.tokens (length reader.old.tokens) [] reader.old.state ≡ (found, reader.new.state)) }
-    ensures text { reader.new.text ≡ reader.old.text }
-    ensures tokens { reader.new.tokens ≡ reader.old.tokens }
+    ensures kept { IsSameText reader.old reader.new }
 {
     let mut found = Items::new(alloc);
     for _turn in 0..reader.tokens_len() {
@@ -49,7 +50,7 @@ fn qualifiers(alloc: Global, reader: &mut Reader<'_>) -> Result<Items<Qualifier>
     Ok(found)
 }
 
-/// What may stand behind a declarator: brackets, or parameters.
+/// What may stand after a declarator: brackets, or parameters.
 #[derive(Clone, Copy, Debug, PartialEq, Eq)]
 pub enum Part {
     Array,
@@ -72,7 +73,7 @@ fn next_part(reader: &Reader<'_>) -> Option<Part>
 }
 
 fn may_leave_out(how: Naming) -> bool
-    ensures { result ≡ spec.may_leave_out (as_naming how) }
+    ensures { result ≡ spec.may_leave_out how }
 {
     match how {
         Naming::Named => false,
@@ -80,128 +81,190 @@ fn may_leave_out(how: Naming) -> bool
     }
 }
 
-/// Whether a mark stands next that has a declarator behind it.
+/// Whether a mark stands next that has a declarator after it.
 fn opens_declarator(reader: &Reader<'_>) -> bool {
     reader.sees_mark(Mark::Star) || reader.sees_mark(Mark::LeftParen)
 }
 
 /// The name that is left out, where it may be.
-fn nameless(reader: &Reader<'_>, how: Naming) -> Result<FoundDeclarator, ParseError>
-    ensures { Reads (λ text ts. spec.nameless (as_naming how)) reader.now result reader.now }
+fn no_name(reader: &Reader<'_>, how: Naming) -> Result<FoundDeclarator, ParseError>
+    ensures reads { Reads (λ text ts. spec.no_name how) reader.now (spelled_found reader.now.texts result) reader.now }
+    ensures spelled { IfOk result (HasSpelling reader.now.texts) }
 {
     if may_leave_out(how) {
-        Ok((Declarator::Unnamed, None, None, 0))
+        Ok(FoundDeclarator {
+            node: Declarator::Unnamed,
+            name: None,
+            own: None,
+            height: 0,
+        })
     } else {
         Err(reader.refuse())
     }
 }
 
-/// Whether `(` begins a list of parameters behind a name that is left out.
-fn opens_parameters(alloc: Global, reader: &Reader<'_>, how: Naming) -> Result<bool, AllocError>
-    ensures { IfOk result (λ opens. opens ≡ spec.opens_parameters reader.now.text reader.now.tokens (as_naming how) reader.now.state) }
+/// Whether `(` begins a list of parameters after a name that is left out.
+fn opens_parameters(reader: &Reader<'_>, how: Naming) -> bool
+    ensures { result ≡ spec.opens_parameters reader.now.text reader.now.tokens how reader.now.state }
 {
-    if !may_leave_out(how) {
-        return Ok(false);
-    }
-    if reader.sees_mark_behind(1, Mark::RightParen) {
-        return Ok(true);
-    }
-    reader.begins_specs_behind(alloc, 1)
+    may_leave_out(how)
+        && (reader.sees_mark_after(1, Mark::RightParen) || reader.begins_specs_after(1))
 }
 
+/// `element[size]`, where the size is as high as `size_height`.
 fn array(
     alloc: Global,
     place: Place,
-    element: Declarator,
+    element: FoundDeclarator,
     size: Expression,
-) -> Result<Declarator, AllocError>
-    ensures { IfOk result (λ node. node ≡ Declarator.Array place element (Some size)) }
+    size_height: u32,
+) -> Result<FoundDeclarator, AllocError>
+    requires low { element.height < u32.MAX }
+    requires size_low { size_height < u32.MAX }
+    ensures { IfOk result (λ f. f ≡ record { node = Declarator.Array place element.node (Some size); name = element.name; own = element.own; height = max element.height size_height + 1 }) }
 {
+    let height = element.height.max(size_height) + 1;
     let size = Some(Boxed::new(alloc, size)?);
-    Ok(Declarator::Array(place, Boxed::new(alloc, element)?, size))
+    let node = Declarator::Array(place, Boxed::new(alloc, element.node)?, size);
+    Ok(FoundDeclarator {
+        node,
+        name: element.name,
+        own: element.own,
+        height,
+    })
 }
 
-fn open_array(alloc: Global, place: Place, element: Declarator) -> Result<Declarator, AllocError>
-    ensures { IfOk result (λ node. node ≡ Declarator.Array place element None) }
+/// `element[]`
+fn open_array(
+    alloc: Global,
+    place: Place,
+    element: FoundDeclarator,
+) -> Result<FoundDeclarator, AllocError>
+    requires { element.height < u32.MAX }
+    ensures { IfOk result (λ f. f ≡ record { node = Declarator.Array place element.node None; name = element.name; own = element.own; height = element.height + 1 }) }
 {
-    Ok(Declarator::Array(place, Boxed::new(alloc, element)?, None))
+    let node = Declarator::Array(place, Boxed::new(alloc, element.node)?, None);
+    Ok(FoundDeclarator {
+        node,
+        name: element.name,
+        own: element.own,
+        height: element.height + 1,
+    })
 }
 
-fn parentheses(alloc: Global, place: Place, inner: Declarator) -> Result<Declarator, AllocError>
-    ensures { IfOk result (λ node. node ≡ Declarator.Parentheses place inner) }
+/// `(inner)`
+fn parentheses(
+    alloc: Global,
+    place: Place,
+    inner: FoundDeclarator,
+) -> Result<FoundDeclarator, AllocError>
+    requires { inner.height < u32.MAX }
+    ensures { IfOk result (λ f. f ≡ record { node = Declarator.Parentheses place inner.node; name = inner.name; own = inner.own; height = inner.height + 1 }) }
 {
-    Ok(Declarator::Parentheses(place, Boxed::new(alloc, inner)?))
+    let node = Declarator::Parentheses(place, Boxed::new(alloc, inner.node)?);
+    Ok(FoundDeclarator {
+        node,
+        name: inner.name,
+        own: inner.own,
+        height: inner.height + 1,
+    })
 }
 
+/// `*` with qualifiers, before a declarator.
 fn pointer(
     alloc: Global,
     place: Place,
     qualifiers: Items<Qualifier>,
-    inner: Declarator,
-) -> Result<Declarator, AllocError>
-    ensures { IfOk result (λ node. node ≡ Declarator.Pointer place qualifiers inner) }
+    inner: FoundDeclarator,
+) -> Result<FoundDeclarator, AllocError>
+    requires { inner.height < u32.MAX }
+    ensures { IfOk result (λ f. f ≡ record { node = Declarator.Pointer place qualifiers inner.node; name = inner.name; own = inner.own; height = inner.height + 1 }) }
 {
-    Ok(Declarator::Pointer(place, qualifiers, Boxed::new(alloc, inner)?))
+    let node = Declarator::Pointer(place, qualifiers, Boxed::new(alloc, inner.node)?);
+    Ok(FoundDeclarator {
+        node,
+        name: inner.name,
+        own: inner.own,
+        height: inner.height + 1,
+    })
 }
 
 impl<
-    E: Fn(Global, &mut Reader<'_>, u32, u8) -> Result<FoundExpression, ParseError> + Copy,
+    E: Fn(Global, &mut Reader<'_>, u32, Level) -> Result<FoundExpression, ParseError> + Copy,
     S: Fn(Global, &mut Reader<'_>, u32) -> Result<FoundSpecs, ParseError> + Copy,
     D: Fn(Global, &mut Reader<'_>, u32, Naming) -> Result<FoundDeclarator, ParseError> + Copy,
 > Declaring<E, S, D> {
     /// At a name, which is the declarator's unless it has none.
-    fn named_here(
+    fn name_or_nothing(
         &self,
         reader: &mut Reader<'_>,
         how: Naming,
     ) -> Result<FoundDeclarator, ParseError>
-        requires { reader.old.state.at < length reader.old.tokens }
-        ensures { Reads (λ text ts. spec.named_here text ts self.now.depth (as_naming how)) reader.old result reader.new }
+        requires within { reader.old.state.at < length reader.old.tokens }
+        requires name { kind_at reader.old.tokens reader.old.state.at ≡ Some kind.Name }
+        ensures reads { Reads (λ text ts. spec.name_or_nothing text ts self.now.depth how) reader.old (spelled_found reader.old.texts result) reader.new }
+        ensures spelled { IfOk result (HasSpelling reader.old.texts) }
     {
         match how {
-            Naming::NotNamed => nameless(reader, how),
+            Naming::NotNamed => no_name(reader, how),
             Naming::Named | Naming::NamedOrNot => self.name_here(reader),
         }
     }
 
+    /// The name that is declared.
     fn name_here(&self, reader: &mut Reader<'_>) -> Result<FoundDeclarator, ParseError>
-        requires { reader.old.state.at < length reader.old.tokens }
-        ensures { Reads (λ text ts. spec.name_here text ts self.now.depth) reader.old result reader.new }
+        requires within { reader.old.state.at < length reader.old.tokens }
+        requires name { kind_at reader.old.tokens reader.old.state.at ≡ Some kind.Name }
+        ensures reads { Reads (λ text ts. spec.name_here text ts self.now.depth) reader.old (spelled_found reader.old.texts result) reader.new }
+        ensures spelled { IfOk result (HasSpelling reader.old.texts) }
     {
         if self.depth == 0 {
             return Err(reader.refuse());
         }
-        let place = reader.place();
-        let name = reader.name_behind(self.alloc, 0)?;
-        let declared = reader.name_behind(self.alloc, 0)?;
+        let node = Declarator::Name(reader.place());
+        let name = reader.name_after(0);
         reader.pass(1);
-        Ok((Declarator::Name(place, name), Some(declared), None, 1))
+        Ok(FoundDeclarator {
+            node,
+            name: Some(name),
+            own: None,
+            height: 1,
+        })
     }
 
     /// `(inner)`
-    #[tactic(auto, unfolding(grammar_descent::specs::DeclaratorSteps::enclosed_here))]
-    fn enclosed(&self, reader: &mut Reader<'_>, how: Naming) -> Result<FoundDeclarator, ParseError>
+    #[tactic(auto, using(crate::proofs::Spellings::same_names), unfolding(grammar_descent::specs::DeclaratorSteps::parentheses_here))]
+    fn parentheses_here(
+        &self,
+        reader: &mut Reader<'_>,
+        how: Naming,
+    ) -> Result<FoundDeclarator, ParseError>
         requires nests { NestsBelow self.now.depth (E.pre self.now.expression) (E.post self.now.expression) (S.pre self.now.specs) (S.post self.now.specs) (D.pre self.now.declarator) (D.post self.now.declarator) }
         requires within { reader.old.state.at < length reader.old.tokens }
-        ensures { Reads (λ text ts. spec.enclosed_here text ts (below text ts self.now.depth) (as_naming how)) reader.old result reader.new }
+        ensures reads { Reads (λ text ts. spec.parentheses_here text ts (below text ts self.now.depth) how) reader.old (spelled_found reader.old.texts result) reader.new }
+        ensures spelled { IfOk result (HasSpelling reader.old.texts) }
     {
         if self.depth == 0 {
             return Err(reader.refuse());
         }
         let place = reader.place();
         reader.pass(1);
-        let (inner, name, own, height) = self.inner_declarator(reader, how)?;
+        let inner = self.inner_declarator(reader, how)?;
         reader.expect(Mark::RightParen)?;
-        let node = parentheses(self.alloc, place, inner)?;
-        Ok((node, name, own, height + 1))
+        Ok(parentheses(self.alloc, place, inner)?)
     }
 
     /// `*` with qualifiers, and all the rest.
-    #[tactic(auto, unfolding(grammar_descent::specs::DeclaratorSteps::pointer_here))]
-    fn pointer(&self, reader: &mut Reader<'_>, how: Naming) -> Result<FoundDeclarator, ParseError>
+    #[tactic(auto, using(crate::proofs::Spellings::same_names), unfolding(grammar_descent::specs::DeclaratorSteps::pointer_here))]
+    fn pointer_here(
+        &self,
+        reader: &mut Reader<'_>,
+        how: Naming,
+    ) -> Result<FoundDeclarator, ParseError>
         requires nests { NestsBelow self.now.depth (E.pre self.now.expression) (E.post self.now.expression) (S.pre self.now.specs) (S.post self.now.specs) (D.pre self.now.declarator) (D.post self.now.declarator) }
         requires within { reader.old.state.at < length reader.old.tokens }
-        ensures { Reads (λ text ts. spec.pointer_here text ts (below text ts self.now.depth) (as_naming how)) reader.old result reader.new }
+        ensures reads { Reads (λ text ts. spec.pointer_here text ts (below text ts self.now.depth) how) reader.old (spelled_found reader.old.texts result) reader.new }
+        ensures spelled { IfOk result (HasSpelling reader.old.texts) }
     {
         if self.depth == 0 {
             return Err(reader.refuse());
@@ -209,33 +272,33 @@ impl<
         let place = reader.place();
         reader.pass(1);
         let qualifiers = qualifiers(self.alloc, reader)?;
-        let (inner, name, own, height) = self.inner_declarator(reader, how)?;
-        let node = pointer(self.alloc, place, qualifiers, inner)?;
-        Ok((node, name, own, height + 1))
+        let inner = self.inner_declarator(reader, how)?;
+        Ok(pointer(self.alloc, place, qualifiers, inner)?)
     }
 
     /// What brackets and parameters may follow.
-    #[tactic(auto, unfolding(grammar_descent::specs::DeclaratorSteps::head))]
-    fn head(&self, reader: &mut Reader<'_>, how: Naming) -> Result<FoundDeclarator, ParseError>
+    #[tactic(auto, using(crate::proofs::Parts::name_there), unfolding(grammar_descent::specs::DeclaratorSteps::innermost))]
+    fn innermost(&self, reader: &mut Reader<'_>, how: Naming) -> Result<FoundDeclarator, ParseError>
         requires nests { NestsBelow self.now.depth (E.pre self.now.expression) (E.post self.now.expression) (S.pre self.now.specs) (S.post self.now.specs) (D.pre self.now.declarator) (D.post self.now.declarator) }
-        ensures { Reads (λ text ts. spec.head text ts (below text ts self.now.depth) self.now.depth (as_naming how)) reader.old result reader.new }
+        ensures reads { Reads (λ text ts. spec.innermost text ts (below text ts self.now.depth) self.now.depth how) reader.old (spelled_found reader.old.texts result) reader.new }
+        ensures spelled { IfOk result (HasSpelling reader.old.texts) }
     {
         if reader.sees(Kind::Name) {
-            self.named_here(reader, how)
+            self.name_or_nothing(reader, how)
         } else if reader.sees_mark(Mark::LeftParen) {
-            if opens_parameters(self.alloc, reader, how)? {
-                nameless(reader, how)
+            if opens_parameters(reader, how) {
+                no_name(reader, how)
             } else {
-                self.enclosed(reader, how)
+                self.parentheses_here(reader, how)
             }
         } else {
-            nameless(reader, how)
+            no_name(reader, how)
         }
     }
 
-    /// `[ ]` or `[ size ]` behind the declarator that begins at `start`.
-    #[tactic(auto, unfolding(grammar_descent::specs::DeclaratorSteps::array_behind))]
-    fn array_behind(
+    /// `[ ]` or `[ size ]` after the declarator that begins at `start`.
+    #[tactic(auto, using(crate::proofs::Spellings::same_names), unfolding(grammar_descent::specs::DeclaratorSteps::array_after))]
+    fn array_after(
         &self,
         reader: &mut Reader<'_>,
         start: usize,
@@ -243,48 +306,50 @@ impl<
     ) -> Result<FoundDeclarator, ParseError>
         requires nests { NestsBelow self.now.depth (E.pre self.now.expression) (E.post self.now.expression) (S.pre self.now.specs) (S.post self.now.specs) (D.pre self.now.declarator) (D.post self.now.declarator) }
         requires within { reader.old.state.at < length reader.old.tokens }
-        requires start { start ≤ 200000 }
-        requires low { element.3 < self.now.depth }
-        ensures { Reads (λ text ts. spec.array_behind text ts (below text ts self.now.depth) self.now.depth start element) reader.old result reader.new }
+        requires start { start ≤ max_tokens }
+        requires spelled { HasSpelling reader.old.texts element }
+        ensures reads { Reads (λ text ts. spec.array_after text ts (below text ts self.now.depth) self.now.depth start (spelled_declarator reader.old.texts element)) reader.old (spelled_found reader.old.texts result) reader.new }
+        ensures spelled { IfOk result (HasSpelling reader.old.texts) }
     {
+        if element.height >= self.depth {
+            return Err(reader.refuse());
+        }
         let place = reader.place_at(start);
-        let (element, name, own, high) = element;
-        if reader.sees_mark_behind(1, Mark::RightBracket) {
+        if reader.sees_mark_after(1, Mark::RightBracket) {
             reader.pass(2);
-            let node = open_array(self.alloc, place, element)?;
-            return Ok((node, name, own, high + 1));
+            return Ok(open_array(self.alloc, place, element)?);
         }
         reader.pass(1);
         let (size, height) = self.inner_expression(reader)?;
         reader.expect(Mark::RightBracket)?;
-        let node = array(self.alloc, place, element, size)?;
-        Ok((node, name, own, high.max(height) + 1))
+        Ok(array(self.alloc, place, element, size, height)?)
     }
-    /// All brackets and parameters behind it.
-    fn parts_behind(
+
+    /// All brackets and parameters after it.
+    #[tactic(auto, using(crate::proofs::Spellings::in_texts))]
+    fn parts_after(
         &self,
         reader: &mut Reader<'_>,
         start: usize,
         mut found: FoundDeclarator,
     ) -> Result<FoundDeclarator, ParseError>
         requires nests { NestsBelow self.now.depth (E.pre self.now.expression) (E.post self.now.expression) (S.pre self.now.specs) (S.post self.now.specs) (D.pre self.now.declarator) (D.post self.now.declarator) }
-        requires start { start ≤ 200000 }
-        ensures { Reads (λ text ts. spec.parts_behind text ts (below text ts self.now.depth) self.now.depth start self.now.depth found) reader.old result reader.new }
+        requires start { start ≤ max_tokens }
+        requires spelled { HasSpelling reader.old.texts found }
+        ensures reads { Reads (λ text ts. spec.parts_after text ts (below text ts self.now.depth) self.now.depth start self.now.depth (spelled_declarator reader.old.texts found)) reader.old (spelled_found reader.old.texts result) reader.new }
+        ensures spelled { IfOk result (HasSpelling reader.old.texts) }
     {
         for _turn in 0..self.depth {
             let Some(part) = next_part(reader) else {
                 return Ok(found);
             };
-            if found.3 >= self.depth {
-                return Err(reader.refuse());
-            }
-            found = self.part_behind(reader, start, part, found)?;
+            found = self.part_after(reader, start, part, found)?;
         }
         Ok(found)
     }
 
-    /// The brackets or the parameters that stand next, behind the declarator that begins at `start`.
-    fn part_behind(
+    /// The brackets or the parameters that stand next, after the declarator that begins at `start`.
+    fn part_after(
         &self,
         reader: &mut Reader<'_>,
         start: usize,
@@ -293,33 +358,36 @@ impl<
     ) -> Result<FoundDeclarator, ParseError>
         requires nests { NestsBelow self.now.depth (E.pre self.now.expression) (E.post self.now.expression) (S.pre self.now.specs) (S.post self.now.specs) (D.pre self.now.declarator) (D.post self.now.declarator) }
         requires within { reader.old.state.at < length reader.old.tokens }
-        requires start { start ≤ 200000 }
-        requires low { found.3 < self.now.depth }
-        ensures { Reads (λ text ts. part_behind part text ts (below text ts self.now.depth) self.now.depth start found) reader.old result reader.new }
+        requires start { start ≤ max_tokens }
+        requires spelled { HasSpelling reader.old.texts found }
+        ensures reads { Reads (λ text ts. part_after part text ts (below text ts self.now.depth) self.now.depth start (spelled_declarator reader.old.texts found)) reader.old (spelled_found reader.old.texts result) reader.new }
+        ensures spelled { IfOk result (HasSpelling reader.old.texts) }
     {
         match part {
-            Part::Array => self.array_behind(reader, start, found),
-            Part::Function => self.function_behind(reader, start, found),
+            Part::Array => self.array_after(reader, start, found),
+            Part::Function => self.function_after(reader, start, found),
         }
     }
 
     /// A declarator that is nested no deeper than this depth.
-    #[tactic(auto, unfolding(grammar_descent::specs::DeclaratorSteps::declarator))]
+    #[tactic(auto, using(crate::proofs::Spellings::in_texts), unfolding(grammar_descent::specs::DeclaratorSteps::declarator))]
     fn declarator_step(
         &self,
         reader: &mut Reader<'_>,
         how: Naming,
     ) -> Result<FoundDeclarator, ParseError>
         requires { NestsBelow self.now.depth (E.pre self.now.expression) (E.post self.now.expression) (S.pre self.now.specs) (S.post self.now.specs) (D.pre self.now.declarator) (D.post self.now.declarator) }
-        ensures { Reads (λ text ts. spec.declarator text ts (below text ts self.now.depth) self.now.depth (as_naming how)) reader.old result reader.new }
+        ensures reads { Reads (λ text ts. spec.declarator text ts (below text ts self.now.depth) self.now.depth how) reader.old (spelled_found reader.old.texts result) reader.new }
+        ensures spelled { IfOk result (HasSpelling reader.old.texts) }
     {
         if reader.sees_mark(Mark::Star) {
-            return self.pointer(reader, how);
+            return self.pointer_here(reader, how);
         }
         let start = reader.at();
-        let found = self.head(reader, how)?;
-        self.parts_behind(reader, start, found)
+        let found = self.innermost(reader, how)?;
+        self.parts_after(reader, start, found)
     }
+
     /// The same, with the name that it declares. Its first token is refused where no depth is left for the name that it needs.
     pub fn read_declarator(
         &self,
@@ -327,7 +395,7 @@ impl<
         how: Naming,
     ) -> Result<FoundDeclarator, ParseError>
         requires { NestsBelow self.now.depth (E.pre self.now.expression) (E.post self.now.expression) (S.pre self.now.specs) (S.post self.now.specs) (D.pre self.now.declarator) (D.post self.now.declarator) }
-        ensures { Reads (λ text ts. (readers text ts self.now.depth).declarator (as_naming how)) reader.old result reader.new }
+        ensures { ReadsDeclarator (λ text ts. (readers text ts self.now.depth).declarator how) reader.old result reader.new }
     {
         let too_deep = self.depth == 1 && !may_leave_out(how) && opens_declarator(reader);
         let start = too_deep.then_some(reader.at() as u32);

@@ -3,6 +3,7 @@
 ghost use Rattle.std.specs.Prelude.{◌≡◌, ◌<◌, ◌≤◌, ◌+◌, ◌&&◌, true, [], Some, None, length, IfOk};
 ghost use Rattle.c_tokens.specs.declared.kind.Kind.TheVariants as kind;
 ghost use Rattle.c_tokens.specs.declared.kind.Mark.TheVariants as mark;
+ghost use Rattle.c_tokens.specs.Limits.{max_tokens};
 ghost use Rattle.grammar_descent.specs.AllReaders.{readers};
 ghost use Rattle.grammar_descent.specs.Reading as reading;
 ghost use Rattle.grammar_descent.specs.SpecifierSteps as spec;
@@ -12,34 +13,27 @@ ghost use Rattle.declarator_parser.specs.Lists.{closes};
 ghost use Rattle.declarator_parser.specs.Roles.{with_role};
 
 use crate::declaring::Declaring;
-use c_grammar::{Enumerator, Expression, Place, Specifier};
+use c_grammar::{Enumerator, Expression, Level, NameKind, Naming, Place, Specifier};
 use c_tokens::{Kind, Mark};
-use c_types::Text;
 use sqlite_items::{Boxed, Items};
 use std::alloc::{AllocError, Global};
-use token_reader::{FoundDeclarator, FoundExpression, FoundSpecs, Naming, ParseError, Reader, Use};
+use token_reader::{FoundDeclarator, FoundExpression, FoundSpecs, ParseError, Reader};
 
-fn enumerator(
-    alloc: Global,
-    place: Place,
-    name: Text,
-    value: Expression,
-) -> Result<Enumerator, AllocError>
-    ensures { IfOk result (λ node. node ≡ record { place = place; name = name; value = Some value }) }
+fn enumerator(alloc: Global, place: Place, value: Expression) -> Result<Enumerator, AllocError>
+    ensures { IfOk result (λ node. node ≡ record { place = place; value = Some value }) }
 {
     Ok(Enumerator {
         place,
-        name,
         value: Some(Boxed::new(alloc, value)?),
     })
 }
 
-/// Whether another constant stands behind a comma.
+/// Whether another constant stands after a comma.
 fn goes_on(reader: &Reader<'_>) -> bool
     ensures value { result ≡ (reading.mark_at reader.now.tokens reader.now.state.at mark.Comma && reading.sees reader.now.tokens (reader.now.state.at + 1) kind.Name) }
     ensures within { result ≡ true → reader.now.state.at < length reader.now.tokens }
 {
-    reader.sees_mark(Mark::Comma) && reader.sees_name_behind(1)
+    reader.sees_mark(Mark::Comma) && reader.sees_name_after(1)
 }
 
 /// The brace that closes a list, with or without a comma before it.
@@ -56,12 +50,12 @@ fn close_list(reader: &mut Reader<'_>) -> Result<(), ParseError>
 }
 
 impl<
-    E: Fn(Global, &mut Reader<'_>, u32, u8) -> Result<FoundExpression, ParseError> + Copy,
+    E: Fn(Global, &mut Reader<'_>, u32, Level) -> Result<FoundExpression, ParseError> + Copy,
     S: Fn(Global, &mut Reader<'_>, u32) -> Result<FoundSpecs, ParseError> + Copy,
     D: Fn(Global, &mut Reader<'_>, u32, Naming) -> Result<FoundDeclarator, ParseError> + Copy,
 > Declaring<E, S, D> {
-    /// A constant, which is in scope from its name on.
-    #[tactic(auto, unfolding(grammar_descent::specs::SpecifierSteps::enumerator_at))]
+    /// A constant, which is in scope after its enumerator (C11 6.2.1p7).
+    #[tactic(auto, using(crate::proofs::Parts::name_there), unfolding(grammar_descent::specs::SpecifierSteps::enumerator_at))]
     fn enumerator(&self, reader: &mut Reader<'_>) -> Result<(Enumerator, u32), ParseError>
         requires { NestsBelow self.now.depth (E.pre self.now.expression) (E.post self.now.expression) (S.pre self.now.specs) (S.post self.now.specs) (D.pre self.now.declarator) (D.post self.now.declarator) }
         ensures reads { Reads (λ text ts. spec.enumerator_at text ts (readers text ts self.now.depth).expression) reader.old result reader.new }
@@ -71,23 +65,17 @@ impl<
             return Err(reader.refuse());
         }
         let place = reader.place();
-        let name = reader.name_behind(self.alloc, 0)?;
-        let has_value = reader.sees_mark_behind(1, Mark::Equal);
-        reader.declare(self.alloc, name.bytes(), Use::Other)?;
-        if !has_value {
+        let name = reader.name_after(0);
+        if !reader.sees_mark_after(1, Mark::Equal) {
             reader.pass(1);
-            return Ok((
-                Enumerator {
-                    place,
-                    name,
-                    value: None,
-                },
-                0,
-            ));
+            reader.declare(name, NameKind::Ordinary)?;
+            return Ok((Enumerator { place, value: None }, 0));
         }
         reader.pass(2);
         let (value, height) = self.value(reader)?;
-        Ok((enumerator(self.alloc, place, name, value)?, height))
+        let node = enumerator(self.alloc, place, value)?;
+        reader.declare(name, NameKind::Ordinary)?;
+        Ok((node, height))
     }
 
     fn enumerators(&self, reader: &mut Reader<'_>) -> Result<(Items<Enumerator>, u32), ParseError>
@@ -109,16 +97,16 @@ impl<
         Err(reader.refuse())
     }
 
-    #[tactic(auto, unfolding(grammar_descent::specs::SpecifierSteps::enumerators_behind))]
-    fn enumerators_behind(
+    #[tactic(auto, unfolding(grammar_descent::specs::SpecifierSteps::enumerators_after))]
+    fn enumerators_after(
         &self,
         reader: &mut Reader<'_>,
-        tag: Option<Text>,
+        tag: Option<u32>,
         start: usize,
     ) -> Result<(Specifier, u32), ParseError>
         requires nests { NestsBelow self.now.depth (E.pre self.now.expression) (E.post self.now.expression) (S.pre self.now.specs) (S.post self.now.specs) (D.pre self.now.declarator) (D.post self.now.declarator) }
-        requires start { start ≤ 200000 }
-        ensures { Reads (λ text ts. spec.enumerators_behind text ts (readers text ts self.now.depth).expression tag start) reader.old (with_role result) reader.new }
+        requires start { start ≤ max_tokens }
+        ensures { Reads (λ text ts. spec.enumerators_after text ts (readers text ts self.now.depth).expression tag start) reader.old (with_role result) reader.new }
     {
         let place = reader.place_at(start);
         let (all, height) = self.enumerators(reader)?;
@@ -134,19 +122,19 @@ impl<
         ensures { Reads (λ text ts. spec.enumeration_here text ts (readers text ts self.now.depth).expression) reader.old (with_role result) reader.new }
     {
         let start = reader.at();
-        if !reader.sees_name_behind(1) {
+        if !reader.sees_name_after(1) {
             reader.pass(1);
             reader.expect(Mark::LeftBrace)?;
-            return self.enumerators_behind(reader, None, start);
+            return self.enumerators_after(reader, None, start);
         }
         let place = reader.place();
-        let name = reader.name_behind(self.alloc, 1)?;
-        let has_list = reader.sees_mark_behind(2, Mark::LeftBrace);
+        let name = (start + 1) as u32;
+        let has_list = reader.sees_mark_after(2, Mark::LeftBrace);
         reader.pass(2);
         if !has_list {
             return Ok((Specifier::EnumTag(place, name), 0));
         }
         reader.pass(1);
-        self.enumerators_behind(reader, Some(name), start)
+        self.enumerators_after(reader, Some(name), start)
     }
 }

@@ -1,6 +1,6 @@
 //! What a specifier begins with.
 
-ghost use Rattle.std.specs.Prelude.{◌≡◌, ◌<◌, length, IfOk, OnSome};
+ghost use Rattle.std.specs.Prelude.{◌≡◌, ◌<◌, length, OnSome};
 ghost use Rattle.grammar_descent.specs.SpecifierSteps as spec;
 ghost use Rattle.declarator_parser.specs.Leads.{as_lead};
 ghost use Rattle.declarator_parser.specs.Roles.{roles_of};
@@ -8,7 +8,6 @@ ghost use Rattle.declarator_parser.specs.Roles.{roles_of};
 use crate::type_words::holds_no_type;
 use c_grammar::{Aggregate, BasicWord, Qualifier, Specifier, Storage};
 use c_tokens::{Keyword, Kind};
-use std::alloc::{AllocError, Global};
 use token_reader::Reader;
 
 /// What a specifier begins with (C11 6.7.1 to 6.7.4).
@@ -19,7 +18,7 @@ pub enum Lead {
     Basic(BasicWord),
     Aggregate(Aggregate),
     Enumeration,
-    TypeName,
+    TypedefName,
 }
 
 fn word_lead(word: Keyword) -> Option<Lead>
@@ -48,25 +47,21 @@ fn word_lead(word: Keyword) -> Option<Lead>
     }
 }
 
-/// What the next specifier begins with, behind these, if one stands there.
+/// What the next specifier begins with, after these, if one stands there.
 #[tactic(auto, unfolding(grammar_descent::specs::SpecifierSteps::lead_at))]
-pub fn next_lead(
-    alloc: Global,
-    reader: &Reader<'_>,
-    earlier: &[Specifier],
-) -> Result<Option<Lead>, AllocError>
-    ensures value { IfOk result (λ lead. as_lead lead ≡ spec.lead_at reader.now.text reader.now.tokens (roles_of earlier.now) reader.now.state) }
-    ensures within { IfOk result (λ lead. OnSome lead (reader.now.state.at < length reader.now.tokens)) }
+pub fn next_lead(reader: &Reader<'_>, earlier: &[Specifier]) -> Option<Lead>
+    ensures value { as_lead result ≡ spec.lead_at reader.now.text reader.now.tokens (roles_of earlier.now) reader.now.state }
+    ensures within { OnSome result (reader.now.state.at < length reader.now.tokens) }
 {
     match reader.kind() {
-        Some(Kind::Word(word)) => Ok(word_lead(word)),
+        Some(Kind::Word(word)) => word_lead(word),
         Some(Kind::Name) => {
-            if reader.names_a_type(alloc)? && holds_no_type(earlier) {
-                Ok(Some(Lead::TypeName))
+            if reader.names_a_type() && holds_no_type(earlier) {
+                Some(Lead::TypedefName)
             } else {
-                Ok(None)
+                None
             }
         }
-        _ => Ok(None),
+        _ => None,
     }
 }

@@ -12,3 +12,4 @@ mod type_words;
 mod wrong_words;
 
 pub use declaring::Declaring;
+pub use type_words::spelled_type;

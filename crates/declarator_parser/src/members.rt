@@ -1,6 +1,7 @@
 //! Members of structs and unions (C11 6.7.2.1).
 
 ghost use Rattle.std.specs.Prelude.{◌≡◌, ◌<◌, ◌≤◌, ◌+◌, [], length, IfOk};
+ghost use Rattle.c_tokens.specs.Limits.{max_tokens};
 ghost use Rattle.grammar_descent.specs.SpecifierSteps as spec;
 ghost use Rattle.declarator_parser.specs.Below.{below, NestsBelow};
 ghost use Rattle.token_reader.specs.Input.{Reads};
@@ -8,17 +9,14 @@ ghost use Rattle.declarator_parser.specs.Lists.{braced_members};
 ghost use Rattle.declarator_parser.specs.Roles.{with_role};
 
 use crate::declaring::Declaring;
-use c_grammar::{Aggregate, Declarator, Member, Specifier};
+use c_grammar::{Aggregate, Declarator, Level, Member, Naming, Specifier};
 use c_tokens::Mark;
-use c_types::Text;
 use sqlite_items::Items;
 use std::alloc::Global;
-use token_reader::{
-    FoundDeclarator, FoundExpression, FoundSpecs, Naming, ParseError, Reader, refused_at,
-};
+use token_reader::{FoundDeclarator, FoundExpression, FoundSpecs, ParseError, Reader, refused_at};
 
 impl<
-    E: Fn(Global, &mut Reader<'_>, u32, u8) -> Result<FoundExpression, ParseError> + Copy,
+    E: Fn(Global, &mut Reader<'_>, u32, Level) -> Result<FoundExpression, ParseError> + Copy,
     S: Fn(Global, &mut Reader<'_>, u32) -> Result<FoundSpecs, ParseError> + Copy,
     D: Fn(Global, &mut Reader<'_>, u32, Naming) -> Result<FoundDeclarator, ParseError> + Copy,
 > Declaring<E, S, D> {
@@ -35,9 +33,9 @@ impl<
         let mut found = Items::new(self.alloc);
         let mut high = 0;
         for _turn in 0..reader.tokens_len() {
-            let (declarator, _name, _own, height) = self.inner_declarator(reader, Naming::Named)?;
-            found.push(declarator)?;
-            high = high.max(height);
+            let declared = self.inner_declarator(reader, Naming::Named)?;
+            high = high.max(declared.height);
+            found.push(declared.node)?;
             if !reader.sees_mark(Mark::Comma) {
                 return Ok((found, high));
             }
@@ -54,15 +52,15 @@ impl<
         ensures low { IfOk result (λ found. found.1 < self.now.depth) }
     {
         let place = reader.place();
-        let (specs, _declares, specs_height) = self.inner_specs(reader)?;
+        let specs = self.inner_specs(reader)?;
         let (declarators, height) = self.member_declarators(reader)?;
         reader.expect(Mark::Semicolon)?;
         let member = Member {
             place,
-            specs,
+            specs: specs.node,
             declarators,
         };
-        Ok((member, specs_height.max(height)))
+        Ok((member, specs.height.max(height)))
     }
 
     /// Up to the closing brace, one at least.
@@ -86,18 +84,18 @@ impl<
     }
 
     /// The list of members of the specifier that begins at `start`.
-    #[tactic(auto, unfolding(grammar_descent::specs::SpecifierSteps::members_behind))]
-    fn members_behind(
+    #[tactic(auto, unfolding(grammar_descent::specs::SpecifierSteps::members_after))]
+    fn members_after(
         &self,
         reader: &mut Reader<'_>,
         which: Aggregate,
-        tag: Option<Text>,
+        tag: Option<u32>,
         start: usize,
     ) -> Result<(Specifier, u32), ParseError>
         requires nests { NestsBelow self.now.depth (E.pre self.now.expression) (E.post self.now.expression) (S.pre self.now.specs) (S.post self.now.specs) (D.pre self.now.declarator) (D.post self.now.declarator) }
         requires some { 0 < self.now.depth }
-        requires start { start ≤ 200000 }
-        ensures { Reads (λ text ts. spec.members_behind text ts (below text ts self.now.depth) which tag start) reader.old (with_role result) reader.new }
+        requires start { start ≤ max_tokens }
+        ensures { Reads (λ text ts. spec.members_after text ts (below text ts self.now.depth) which tag start) reader.old (with_role result) reader.new }
     {
         let place = reader.place_at(start);
         let (all, height) = self.members(reader)?;
@@ -111,11 +109,11 @@ impl<
         &self,
         reader: &mut Reader<'_>,
         which: Aggregate,
-        tag: Option<Text>,
+        tag: Option<u32>,
         start: usize,
     ) -> Result<(Specifier, u32), ParseError>
         requires nests { NestsBelow self.now.depth (E.pre self.now.expression) (E.post self.now.expression) (S.pre self.now.specs) (S.post self.now.specs) (D.pre self.now.declarator) (D.post self.now.declarator) }
-        requires start { start ≤ 200000 }
+        requires start { start ≤ max_tokens }
         ensures { Reads (λ text ts. braced_members text ts (below text ts self.now.depth) which tag start) reader.old (with_role result) reader.new }
     {
         if self.depth == 0 {
@@ -123,7 +121,7 @@ impl<
         }
         let brace = (self.depth == 1).then_some(reader.at() as u32);
         reader.expect(Mark::LeftBrace)?;
-        let found = self.members_behind(reader, which, tag, start);
+        let found = self.members_after(reader, which, tag, start);
         refused_at(found, brace)
     }
 }

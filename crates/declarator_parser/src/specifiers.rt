@@ -7,23 +7,21 @@ ghost use Rattle.declarator_parser.specs.Below.{below, NestsBelow};
 ghost use Rattle.token_reader.specs.Input.{Reads};
 ghost use Rattle.declarator_parser.specs.WithRoles.{ReadsSpecs};
 ghost use Rattle.declarator_parser.specs.Leads.{one_lead};
-ghost use Rattle.token_reader.specs.Nests.{with_use};
+ghost use Rattle.token_reader.specs.Nests.{with_kind};
 ghost use Rattle.declarator_parser.specs.Roles.{with_role, with_roles};
 
 use crate::declaring::Declaring;
 use crate::leads::{Lead, next_lead};
-use crate::type_words::{declared_use, holds_one_type};
+use crate::type_words::{declared_kind, holds_one_type};
 use crate::wrong_words::{first_wrong, first_wrong_with_type};
-use c_grammar::{Aggregate, Specifier, Specs};
+use c_grammar::{Aggregate, Level, Naming, Specifier, Specs};
 use c_tokens::Mark;
 use sqlite_items::Items;
 use std::alloc::Global;
-use token_reader::{
-    FoundDeclarator, FoundExpression, FoundSpecs, Naming, ParseError, Reader, refused_at,
-};
+use token_reader::{FoundDeclarator, FoundExpression, FoundSpecs, ParseError, Reader, refused_at};
 
 impl<
-    E: Fn(Global, &mut Reader<'_>, u32, u8) -> Result<FoundExpression, ParseError> + Copy,
+    E: Fn(Global, &mut Reader<'_>, u32, Level) -> Result<FoundExpression, ParseError> + Copy,
     S: Fn(Global, &mut Reader<'_>, u32) -> Result<FoundSpecs, ParseError> + Copy,
     D: Fn(Global, &mut Reader<'_>, u32, Naming) -> Result<FoundDeclarator, ParseError> + Copy,
 > Declaring<E, S, D> {
@@ -39,12 +37,12 @@ impl<
         ensures { Reads (λ text ts. spec.aggregate_here text ts (below text ts self.now.depth) which) reader.old (with_role result) reader.new }
     {
         let start = reader.at();
-        if !reader.sees_name_behind(1) {
+        if !reader.sees_name_after(1) {
             reader.pass(1);
             return self.braced_members(reader, which, None, start);
         }
         let place = reader.place();
-        let name = reader.name_behind(self.alloc, 1)?;
+        let name = (start + 1) as u32;
         reader.pass(2);
         if reader.sees_mark(Mark::LeftBrace) {
             self.braced_members(reader, which, Some(name), start)
@@ -78,15 +76,14 @@ impl<
             }
             Lead::Aggregate(which) => self.aggregate(reader, which),
             Lead::Enumeration => self.enumeration(reader),
-            Lead::TypeName => {
-                let name = reader.name_behind(self.alloc, 0)?;
+            Lead::TypedefName => {
                 reader.pass(1);
-                Ok((Specifier::TypeName(place, name), 0))
+                Ok((Specifier::TypedefName(place), 0))
             }
         }
     }
 
-    /// The next specifier. Where it is refused, and no type may stand behind the earlier ones, the first wrong word is refused.
+    /// The next specifier. Where it is refused, and no type may stand after the earlier ones, the first wrong word is refused.
     #[tactic(auto, using(crate::proofs::SpecifierRefusals::same_specifier))]
     fn next_specifier(
         &self,
@@ -116,7 +113,7 @@ impl<
         let mut found = Items::new(self.alloc);
         let mut high = 0;
         for _turn in 0..reader.tokens_len() {
-            let Some(lead) = next_lead(self.alloc, reader, found.as_slice())? else {
+            let Some(lead) = next_lead(reader, found.as_slice()) else {
                 return Ok((found, high));
             };
             let (specifier, height) = self.next_specifier(reader, lead, found.as_slice())?;
@@ -138,13 +135,15 @@ impl<
             let wrong = first_wrong(words.as_slice(), reader.at() as u32);
             return Err(ParseError::Syntax(wrong));
         }
-        let declares = declared_use(words.as_slice());
-        Ok((Specs { place, words }, declares, height))
+        let kind = declared_kind(words.as_slice());
+        let node = Specs { place, words };
+        Ok(FoundSpecs { node, kind, height })
     }
+
     /// Specifiers that are nested no deeper than this depth, with what they declare a name as.
     pub fn read_specs(&self, reader: &mut Reader<'_>) -> Result<FoundSpecs, ParseError>
         requires { NestsBelow self.now.depth (E.pre self.now.expression) (E.post self.now.expression) (S.pre self.now.specs) (S.post self.now.specs) (D.pre self.now.declarator) (D.post self.now.declarator) }
-        ensures { Reads (λ text ts. with_use (readers text ts self.now.depth).specs) reader.old result reader.new }
+        ensures { Reads (λ text ts. with_kind (readers text ts self.now.depth).specs) reader.old result reader.new }
     {
         self.specs_step(reader)
     }

@@ -1,14 +1,13 @@
 //! Which type the words of specifiers spell, and what they declare (C11 6.7.2p2, 6.7.8).
 
-ghost use Rattle.std.specs.Prelude.{◌≡◌, ◌+◌, ◌≤◌, ℕ, true, is_some, not, Some};
+ghost use Rattle.std.specs.Prelude.{◌≡◌, not, option_map};
 ghost use Rattle.c_grammar.specs.Words.{basic_words, whole_types as number_of_types};
-ghost use Rattle.c_grammar.specs.Scope.{use_of};
+ghost use Rattle.c_grammar.specs.Scope.{declared_kind as kind_by_roles};
 ghost use Rattle.grammar_descent.specs.TypeWords as types;
 ghost use Rattle.declarator_parser.specs.Roles as spec;
-ghost use Rattle.token_reader.specs.Uses.{as_use};
+ghost use Rattle.declarator_parser.specs.Signs.{as_sign};
 
-use c_grammar::{BasicWord, Specifier, Storage};
-use token_reader::Use;
+use c_grammar::{BasicType, BasicWord, NameKind, Specifier, Storage};
 
 fn is_word(word: &Specifier, which: BasicWord) -> bool
     ensures { result ≡ spec.spells_word which (spec.role_of word.now) }
@@ -67,59 +66,112 @@ pub fn holds_no_type(words: &[Specifier]) -> bool
     words.iter().filter(|word| is_of_type(word)).count() == 0
 }
 
-/// Whether they make what is declared behind them a name of a type.
-pub fn declared_use(words: &[Specifier]) -> Use
-    ensures { as_use result ≡ use_of (spec.roles_of words.now) }
+/// What a name is that is declared after them.
+pub fn declared_kind(words: &[Specifier]) -> NameKind
+    ensures { result ≡ kind_by_roles (spec.roles_of words.now) }
 {
     if words.iter().filter(|word| makes_types(word)).count() == 0 {
-        Use::Other
+        NameKind::Ordinary
     } else {
-        Use::TypeName
+        NameKind::Type
     }
 }
 
-/// How `signed` and `unsigned` stand, so often each.
-fn signs_fit(signed: usize, unsigned: usize) -> bool
-    ensures value { result ≡ is_some (types.sign_of signed unsigned) }
-    ensures few { result ≡ true → signed + unsigned ≤ 1 }
+/// How `signed` and `unsigned` stand among the words.
+#[derive(Clone, Copy, Debug, PartialEq, Eq)]
+enum Sign {
+    Plain,
+    Signed,
+    Unsigned,
+}
+
+/// Which sign the words have where `signed` and `unsigned` stand so often.
+fn sign_of(signed: usize, unsigned: usize) -> Option<Sign>
+    ensures { option_map as_sign result ≡ types.sign_of signed unsigned }
 {
     match (signed, unsigned) {
-        (0 | 1, 0) | (0, 1) => true,
-        _ => false,
+        (0, 0) => Some(Sign::Plain),
+        (1, 0) => Some(Sign::Signed),
+        (0, 1) => Some(Sign::Unsigned),
+        _ => None,
     }
 }
 
-/// What stands beside `signed` and `unsigned`, where no other word may stand so often.
-fn words_fit(void: usize, char: usize, short: usize, int: usize, long: usize, signs: usize) -> bool
-    ensures { (signed unsigned : ℕ) (sign : types.Sign) → signs ≡ signed + unsigned → types.sign_of signed unsigned ≡ Some sign → result ≡ is_some (types.type_of void char short int long sign) }
+fn signed_or(sign: Sign, one: BasicType, other: BasicType) -> BasicType
+    ensures { result ≡ types.signed_or (as_sign sign) one other }
+{
+    match sign {
+        Sign::Plain | Sign::Signed => one,
+        Sign::Unsigned => other,
+    }
+}
+
+fn void_type(sign: Sign) -> Option<BasicType>
+    ensures { result ≡ types.void_type (as_sign sign) }
+{
+    match sign {
+        Sign::Plain => Some(BasicType::Void),
+        Sign::Signed | Sign::Unsigned => None,
+    }
+}
+
+/// The type of `int` so often, where no other word but a sign stands.
+fn int_type(int: usize, sign: Sign) -> Option<BasicType>
+    ensures { result ≡ types.int_type int (as_sign sign) }
+{
+    match sign {
+        Sign::Plain => (int == 1).then_some(BasicType::Int),
+        Sign::Signed => (int <= 1).then_some(BasicType::Int),
+        Sign::Unsigned => (int <= 1).then_some(BasicType::UnsignedInt),
+    }
+}
+
+/// The type of the words that stand so often, with this sign.
+fn type_of(
+    void: usize,
+    char: usize,
+    short: usize,
+    int: usize,
+    long: usize,
+    sign: Sign,
+) -> Option<BasicType>
+    ensures { result ≡ types.type_of void char short int long (as_sign sign) }
 {
     if long > 0 {
-        long <= 2 && short == 0 && char == 0 && void == 0 && int <= 1
+        let fits = long <= 2 && short == 0 && char == 0 && void == 0 && int <= 1;
+        fits.then_some(signed_or(sign, BasicType::Long, BasicType::UnsignedLong))
     } else if short > 0 {
-        short == 1 && char == 0 && void == 0 && int <= 1
+        let fits = short == 1 && char == 0 && void == 0 && int <= 1;
+        fits.then_some(signed_or(sign, BasicType::Short, BasicType::UnsignedShort))
     } else if char > 0 {
-        char == 1 && void == 0 && int == 0
+        let fits = char == 1 && void == 0 && int == 0;
+        fits.then_some(signed_or(sign, BasicType::Char, BasicType::UnsignedChar))
     } else if void > 0 {
-        void == 1 && int == 0 && signs == 0
+        if void == 1 && int == 0 {
+            void_type(sign)
+        } else {
+            None
+        }
     } else {
-        int == 1 || (int == 0 && signs == 1)
+        int_type(int, sign)
     }
 }
 
-fn spells_type(words: &[Specifier]) -> bool
-    ensures { result ≡ is_some (types.spelled_type (basic_words (spec.roles_of words.now))) }
+/// The basic type that the words among the specifiers spell, in whatever order, if they spell one (C11 6.7.2p2).
+pub fn spelled_type(words: &[Specifier]) -> Option<BasicType>
+    ensures { result ≡ types.spelled_type (basic_words (spec.roles_of words.now)) }
 {
     let signed = times(words, BasicWord::Signed);
     let unsigned = times(words, BasicWord::Unsigned);
-    signs_fit(signed, unsigned)
-        && words_fit(
-            times(words, BasicWord::Void),
-            times(words, BasicWord::Char),
-            times(words, BasicWord::Short),
-            times(words, BasicWord::Int),
-            times(words, BasicWord::Long),
-            signed + unsigned,
-        )
+    let Some(sign) = sign_of(signed, unsigned) else {
+        return None;
+    };
+    let void = times(words, BasicWord::Void);
+    let char = times(words, BasicWord::Char);
+    let short = times(words, BasicWord::Short);
+    let int = times(words, BasicWord::Int);
+    let long = times(words, BasicWord::Long);
+    type_of(void, char, short, int, long, sign)
 }
 
 fn is_basic(word: &Specifier) -> bool
@@ -143,7 +195,7 @@ pub fn holds_one_type(words: &[Specifier]) -> bool
 {
     let types = whole_types(words);
     if types == 0 {
-        spells_type(words)
+        spelled_type(words).is_some()
     } else {
         types == 1 && !has_word(words)
     }

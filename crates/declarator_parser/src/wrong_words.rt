@@ -76,7 +76,7 @@ fn place_of(specifier: &Specifier) -> Place {
         | Specifier::Tag(place, _, _)
         | Specifier::Enumerators(place, _, _)
         | Specifier::EnumTag(place, _)
-        | Specifier::TypeName(place, _) => *place,
+        | Specifier::TypedefName(place) => *place,
     }
 }
 
@@ -100,15 +100,15 @@ fn tally_of(specifiers: &[Specifier]) -> Result<Tally, u32> {
     Ok(tally)
 }
 
-/// The first token of the first of these specifiers with which no right list begins; `behind` where there is none.
-pub fn first_wrong(specifiers: &[Specifier], behind: u32) -> u32 {
+/// The first token of the first of these specifiers with which no right list begins; `next` where there is none.
+pub fn first_wrong(specifiers: &[Specifier], next: u32) -> u32 {
     match tally_of(specifiers) {
-        Ok(_) => behind,
+        Ok(_) => next,
         Err(wrong) => wrong,
     }
 }
 
-/// The same where a whole type begins behind them, at this token; nothing where some right list begins with all of them.
+/// The same where a whole type begins after them, at this token; nothing where some right list begins with all of them.
 pub fn first_wrong_with_type(specifiers: &[Specifier], start: u32) -> Option<u32> {
     match tally_of(specifiers) {
         Ok(tally) => (!begins_type(with_whole_type(tally))).then_some(start),

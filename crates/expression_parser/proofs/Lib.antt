@@ -1,3 +1,4 @@
 pub mod Shallow
-pub mod TypeNames
+pub mod TypePhrases
 pub mod Operands
+pub mod Joined

@@ -6,10 +6,11 @@ use Rattle.c_tokens.specs.declared.kind.Kind.TheVariants as k
 use Rattle.c_tokens.specs.declared.kind.Mark.TheVariants as mark
 use Rattle.c_tokens.specs.declared.token.Token.{Token}
 use Rattle.c_grammar.specs.declared.phrases.Expression.{Expression}
-use Rattle.c_grammar.specs.Operators.{cast}
+use Rattle.c_grammar.specs.declared.words.Level.TheVariants as of
+use Rattle.c_grammar.specs.Operators.{tightness}
 use Rattle.grammar_descent.specs.Reading.{State, ◌>>=◌, sees, when, mark_at, past, Readers}
 use Rattle.grammar_descent.specs.Types.{begins_specs}
-use Rattle.grammar_descent.specs.ExpressionSteps.{made, head, enclosed, cast_to, type_name, from_head, expression}
+use Rattle.grammar_descent.specs.ExpressionSteps.{node_within, head, cast_or_parentheses, cast_to, type_phrase, from_head, expression}
 use Rattle.grammar_descent.proofs.Seen.{le_false, stands, both}
 
 bind_bind : {A B C : Type 0} (o : Option A) (f : A → Option B) (g : B → Option C) → ((x : A) → (f x >>= g) ≡ None) → ((o >>= f) >>= g) ≡ None
@@ -24,21 +25,21 @@ when_bind : {A B : Type 0} (ts : List Token) (at : ℕ) (kind : Kind) (o : Optio
 when_bind ts at kind o g h = if_bind (sees ts at kind) o g h
 
 module _ (text : List ℕ) (ts : List Token) (depth : ℕ) (inner : Readers) where
-  loose : (least start : ℕ) (node : Expression) (high : ℕ) (after : State) → cast < least →
-      (made depth node high cast after >>= from_head text ts depth inner least start) ≡ None
-  loose least start node high after h = if_bind (nat_le high depth) _ (from_head text ts depth inner least start) (rw (le_false least cast h) refl)
+  loose : (least start : ℕ) (node : Expression) (high : ℕ) (after : State) → (tightness of.Cast) < least →
+      (node_within depth node high (tightness of.Cast) after >>= from_head text ts depth inner least start) ≡ None
+  loose least start node high after h = if_bind (nat_le high depth) _ (from_head text ts depth inner least start) (rw (le_false least (tightness of.Cast) h) refl)
 
-  cast_is_loose : (least start : ℕ) (s : State) → cast < least → (cast_to text ts depth inner s >>= from_head text ts depth inner least start) ≡ None
+  cast_is_loose : (least start : ℕ) (s : State) → (tightness of.Cast) < least → (cast_to text ts depth inner s >>= from_head text ts depth inner least start) ≡ None
   unfolding cast_to
-  cast_is_loose least start s h = bind_bind (type_name text ts depth inner (past s 1)) _ (from_head text ts depth inner least start)
+  cast_is_loose least start s h = bind_bind (type_phrase text ts depth inner (past s 1)) _ (from_head text ts depth inner least start)
       (λ n. when_bind ts n.1.at (k.Mark mark.RightParen) _ (from_head text ts depth inner least start)
-      (bind_bind (inner.expression cast (past n.1 1)) _ (from_head text ts depth inner least start) (λ f. loose least start _ _ f.1 h)))
+      (bind_bind (inner.expression (tightness of.Cast) (past n.1 1)) _ (from_head text ts depth inner least start) (λ f. loose least start _ _ f.1 h)))
 
   pub no_operand : (least : ℕ) (s : State) →
-      (nat_lt cast least && (mark_at ts s.at mark.LeftParen && begins_specs text ts s.scope (s.at + 1))) ≡ true → expression text ts depth inner least s ≡ None
-  unfolding expression head enclosed
+      (nat_lt (tightness of.Cast) least && (mark_at ts s.at mark.LeftParen && begins_specs text ts s.scope (s.at + 1))) ≡ true → expression text ts depth inner least s ≡ None
+  unfolding expression head cast_or_parentheses
   no_operand least s h =
-      let tight = both (nat_lt cast least) _ h in
+      let tight = both (nat_lt (tightness of.Cast) least) _ h in
       let seen = both (mark_at ts s.at mark.LeftParen) _ tight.1 in
-      let below : cast < least = grind (arith, nat_tests) in
+      let below : (tightness of.Cast) < least = grind (arith, nat_tests) in
       rw (stands ts s.at (k.Mark mark.LeftParen) seen.0, seen.1, cast_is_loose least s.at s below) refl

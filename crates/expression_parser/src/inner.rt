@@ -1,12 +1,14 @@
 //! The parser of phrases takes the parsers of what is nested in them as values, so that each is proved by itself.
 
 ghost use Rattle.grammar_descent.specs.AllReaders.{readers};
+ghost use Rattle.c_grammar.specs.Operators.{tightness};
+ghost use Rattle.token_reader.specs.Found.{ReadsDeclarator};
 ghost use Rattle.token_reader.specs.Input.{Reads};
-ghost use Rattle.token_reader.specs.Naming.{as_naming};
-ghost use Rattle.token_reader.specs.Nests.{Nests, with_use};
+ghost use Rattle.token_reader.specs.Nests.{Nests, with_kind};
 
+use c_grammar::{Level, Naming};
 use std::alloc::Global;
-use token_reader::{FoundDeclarator, FoundExpression, FoundSpecs, Naming, ParseError, Reader};
+use token_reader::{FoundDeclarator, FoundExpression, FoundSpecs, ParseError, Reader};
 
 /// The parsers of phrases that are nested no deeper than `depth`.
 #[derive(Clone, Copy)]
@@ -19,7 +21,7 @@ pub struct Inner<E, S, D> {
 }
 
 impl<
-    E: Fn(Global, &mut Reader<'_>, u32, u8) -> Result<FoundExpression, ParseError>,
+    E: Fn(Global, &mut Reader<'_>, u32, Level) -> Result<FoundExpression, ParseError>,
     S: Fn(Global, &mut Reader<'_>, u32) -> Result<FoundSpecs, ParseError>,
     D: Fn(Global, &mut Reader<'_>, u32, Naming) -> Result<FoundDeclarator, ParseError>,
 > Inner<E, S, D> {
@@ -27,10 +29,10 @@ impl<
     pub fn expression(
         &self,
         reader: &mut Reader<'_>,
-        level: u8,
+        level: Level,
     ) -> Result<FoundExpression, ParseError>
         requires { Nests self.now.depth (E.pre self.now.expression) (E.post self.now.expression) (S.pre self.now.specs) (S.post self.now.specs) (D.pre self.now.declarator) (D.post self.now.declarator) }
-        ensures { Reads (λ text ts. (readers text ts self.now.depth).expression level) reader.old result reader.new }
+        ensures { Reads (λ text ts. (readers text ts self.now.depth).expression (tightness level)) reader.old result reader.new }
     {
         (self.expression)(self.alloc, reader, self.depth, level)
     }
@@ -38,7 +40,7 @@ impl<
     /// Declaration specifiers.
     pub fn specs(&self, reader: &mut Reader<'_>) -> Result<FoundSpecs, ParseError>
         requires { Nests self.now.depth (E.pre self.now.expression) (E.post self.now.expression) (S.pre self.now.specs) (S.post self.now.specs) (D.pre self.now.declarator) (D.post self.now.declarator) }
-        ensures { Reads (λ text ts. with_use (readers text ts self.now.depth).specs) reader.old result reader.new }
+        ensures { Reads (λ text ts. with_kind (readers text ts self.now.depth).specs) reader.old result reader.new }
     {
         (self.specs)(self.alloc, reader, self.depth)
     }
@@ -50,7 +52,7 @@ impl<
         how: Naming,
     ) -> Result<FoundDeclarator, ParseError>
         requires { Nests self.now.depth (E.pre self.now.expression) (E.post self.now.expression) (S.pre self.now.specs) (S.post self.now.specs) (D.pre self.now.declarator) (D.post self.now.declarator) }
-        ensures { Reads (λ text ts. (readers text ts self.now.depth).declarator (as_naming how)) reader.old result reader.new }
+        ensures { ReadsDeclarator (λ text ts. (readers text ts self.now.depth).declarator how) reader.old result reader.new }
     {
         (self.declarator)(self.alloc, reader, self.depth, how)
     }

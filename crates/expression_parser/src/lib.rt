@@ -3,10 +3,9 @@
 
 mod expressions;
 mod growing;
-mod growths;
 mod heads;
 mod inner;
-mod nodes;
-mod operators;
+mod phrases;
+mod tails;
 
 pub use inner::Inner;

@@ -19,6 +19,7 @@ same_reads read before after r s same given = record {
   answer = same_gives r s after.state (read before.text before.tokens before.state) same given.answer;
   text = given.text;
   tokens = given.tokens;
+  texts = given.texts;
 }
 
 -- what holds of all that is found

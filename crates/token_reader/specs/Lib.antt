@@ -1,7 +1,7 @@
-pub mod Uses
+pub mod Scoping
 pub mod Input
 pub mod Reader
 pub mod Cursor
 pub mod Refused
-pub mod Naming
+pub mod Found
 pub mod Nests

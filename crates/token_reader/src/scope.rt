@@ -1,43 +1,40 @@
 //! The names in scope, and which of them are types.
 
-ghost use Rattle.std.specs.Prelude.{◌≡◌, ◌-◌, [], ◌∷◌, ◌++◌, length, take, drop, Some, IfOk, OnOk, OnErr};
-ghost use Rattle.c_grammar.specs.Scope as grammar;
-ghost use Rattle.grammar_descent.specs.Types as types;
-ghost use Rattle.token_reader.specs.Uses.{as_use, declares_at};
+ghost use Rattle.std.specs.Prelude.{◌≡◌, ℕ, ◌-◌, [], ◌∷◌, ◌++◌, length, take, drop, reverse, Some, IfOk, OnOk, OnErr};
+ghost use Rattle.token_reader.specs.Scoping.{declares_at, is_type_in, start_numbers, types_of};
 
-use crate::declared::Own;
-use crate::uses::Use;
-use c_types::Text;
+use crate::parameter_names::{DeclaredName, ParameterNames};
+use c_grammar::NameKind;
 use scoped_names::Names;
 use std::alloc::{AllocError, Global};
 use std::marker::Model;
 
-/// The names in scope: contracts see them with their uses, the last declared first.
+/// The names in scope, by their numbers: contracts see them with their kinds, the last declared first.
 #[derive(Drop)]
 pub struct Scope {
     names: Names,
-    uses: Vec<Use>,
+    kinds: Vec<NameKind>,
 }
 
 impl Model for Scope {
-    ghost use Rattle.std.specs.Prelude.{◌≡◌, length};
-    ghost use Rattle.c_grammar.specs.Scope.{Scope as Declared};
-    ghost use Rattle.token_reader.specs.Uses.{scope_of};
+    ghost use Rattle.std.specs.Prelude.{◌≡◌, length, List};
+    ghost use Rattle.token_reader.specs.declared.parameter_names.DeclaredName.{DeclaredName as OneName};
+    ghost use Rattle.token_reader.specs.Scoping.{scope_of};
 
-    ghost Value = { Declared };
+    ghost Value = { List OneName };
 
-    ghost view = { λ s. scope_of s.names s.uses.items };
+    ghost view = { λ s. scope_of s.names s.kinds.items };
 
-    ghost invariant = { λ s. length s.uses.items ≡ length s.names };
+    ghost invariant = { λ s. length s.kinds.items ≡ length s.names };
 }
 
 /// Whether what was declared there is a type.
-fn declares_type(uses: &[Use], place: usize) -> bool
-    ensures { result ≡ declares_at uses.now (Some place) }
+fn declares_type(kinds: &[NameKind], place: usize) -> bool
+    ensures { result ≡ declares_at kinds.now (Some place) }
 {
-    match uses.get(place) {
-        Some(Use::TypeName) => true,
-        Some(Use::Other) | None => false,
+    match kinds.get(place) {
+        Some(NameKind::Type) => true,
+        Some(NameKind::Ordinary) | None => false,
     }
 }
 
@@ -47,35 +44,27 @@ impl Scope {
     {
         Scope {
             names: Names::new(alloc),
-            uses: Vec::new(alloc),
+            kinds: Vec::new(alloc),
         }
     }
 
-    /// The names of types that stand in every text (C11 7.19 and 7.20.1.1).
-    pub fn start(alloc: Global) -> Result<Scope, AllocError>
-        ensures { IfOk result (λ scope. scope ≡ grammar.start) }
+    /// The names of types that stand in every text (C11 7.19 and 7.20.1.1), and these.
+    pub fn with_typedefs(alloc: Global, typedefs: &[u32]) -> Result<Scope, AllocError>
+        ensures { IfOk result (λ scope. scope ≡ types_of (typedefs.now ++ start_numbers)) }
     {
         let mut scope = Scope::new(alloc);
-        scope.declare(alloc, b"uint64_t", Use::TypeName)?;
-        scope.declare(alloc, b"uint32_t", Use::TypeName)?;
-        scope.declare(alloc, b"uint16_t", Use::TypeName)?;
-        scope.declare(alloc, b"uint8_t", Use::TypeName)?;
-        scope.declare(alloc, b"int64_t", Use::TypeName)?;
-        scope.declare(alloc, b"int32_t", Use::TypeName)?;
-        scope.declare(alloc, b"int16_t", Use::TypeName)?;
-        scope.declare(alloc, b"int8_t", Use::TypeName)?;
-        scope.declare(alloc, b"ptrdiff_t", Use::TypeName)?;
-        scope.declare(alloc, b"size_t", Use::TypeName)?;
-        Ok(scope)
-    }
-
-    /// The names of types that stand in every text, and these.
-    pub fn with_typedefs(alloc: Global, typedefs: &[Text]) -> Result<Scope, AllocError>
-        ensures { IfOk result (λ scope. scope ≡ grammar.types typedefs.now ++ grammar.start) }
-    {
-        let mut scope = Scope::start(alloc)?;
+        scope.declare(9, NameKind::Type)?;
+        scope.declare(8, NameKind::Type)?;
+        scope.declare(7, NameKind::Type)?;
+        scope.declare(6, NameKind::Type)?;
+        scope.declare(5, NameKind::Type)?;
+        scope.declare(4, NameKind::Type)?;
+        scope.declare(3, NameKind::Type)?;
+        scope.declare(2, NameKind::Type)?;
+        scope.declare(1, NameKind::Type)?;
+        scope.declare(0, NameKind::Type)?;
         for i in (0..typedefs.len()).rev() {
-            scope.declare(alloc, typedefs[i].bytes(), Use::TypeName)?;
+            scope.declare(typedefs[i], NameKind::Type)?;
         }
         Ok(scope)
     }
@@ -84,27 +73,27 @@ impl Scope {
     pub fn len(&self) -> usize
         ensures { result ≡ length self.now }
     {
-        self.uses.len()
+        self.kinds.len()
     }
 
     /// Whether the last declaration of the name declares a type.
-    pub fn is_type(&self, name: &[u8]) -> bool
-        ensures { result ≡ types.names_a_type self.now name.now }
+    pub fn is_type(&self, name: u32) -> bool
+        ensures { result ≡ is_type_in self.now name }
     {
         match self.names.find(name) {
-            Some(place) => declares_type(self.uses.as_slice(), place),
+            Some(place) => declares_type(self.kinds.as_slice(), place),
             None => false,
         }
     }
 
-    /// Declares a name behind all others.
-    pub fn declare(&mut self, alloc: Global, name: &[u8], what: Use) -> Result<(), AllocError>
-        ensures ok { OnOk result (self.new ≡ (name.now, as_use what) ∷ self.old) }
+    /// Declares a name after all others.
+    pub fn declare(&mut self, name: u32, kind: NameKind) -> Result<(), AllocError>
+        ensures ok { OnOk result (self.new ≡ record { name = name; kind = kind } ∷ self.old) }
         ensures err { OnErr result (self.new ≡ self.old) }
     {
-        self.uses.reserve(1)?;
-        self.names.declare(alloc, name)?;
-        let stored: Result<_, _> = self.uses.push(what);
+        self.kinds.reserve(1)?;
+        self.names.declare(name)?;
+        let stored: Result<_, _> = self.kinds.push(kind);
         stored.unwrap();
         Ok(())
     }
@@ -114,29 +103,32 @@ impl Scope {
         ensures { self.new ≡ drop (length self.old - count) self.old }
     {
         self.names.close(count);
-        self.uses.truncate(count);
+        self.kinds.truncate(count);
     }
 
-    /// The names behind the first `count`, counted from the outermost.
-    pub fn since(&self, alloc: Global, count: usize) -> Result<Own, AllocError>
+    /// The names after the first `count`, counted from the outermost.
+    pub fn since(&self, alloc: Global, count: usize) -> Result<ParameterNames, AllocError>
         ensures { IfOk result (λ own. own ≡ take (length self.now - count) self.now) }
     {
-        let mut own = Own::new(alloc);
-        for place in count..self.uses.len() {
-            let mut name = Text::new(alloc);
-            name.append(self.names.name(place))?;
-            own.add(name, self.uses[place])?;
+        let mut own = ParameterNames::new(alloc);
+        for place in count..self.kinds.len() {
+            own.add(DeclaredName {
+                name: self.names.name(place),
+                kind: self.kinds[place],
+            })?;
         }
         Ok(own)
     }
 
     /// Declares all of them again.
-    pub fn declare_all(&mut self, alloc: Global, own: &Own) -> Result<(), AllocError>
-        ensures { OnOk result (self.new ≡ own.now ++ self.old) }
+    pub fn declare_all(&mut self, own: &ParameterNames) -> Result<(), AllocError>
+        ensures ok { OnOk result (self.new ≡ own.now ++ self.old) }
+        // Where memory runs out, so many of them are declared.
+        ensures some { (n : ℕ) × (self.new ≡ reverse (take n (reverse own.now)) ++ self.old) }
     {
         for i in 0..own.len() {
-            let (name, what) = own.declaration(i);
-            self.declare(alloc, name, what)?;
+            let declared = own.declaration(i);
+            self.declare(declared.name, declared.kind)?;
         }
         Ok(())
     }

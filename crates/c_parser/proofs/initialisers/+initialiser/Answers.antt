@@ -2,7 +2,7 @@ use Rattle.std.proofs.Common.{◌+◌, ◌-◌, ◌∙◌, sym, length, rules, a
 use Rattle.std.proofs.lemmas.Grind.{common_steps}
 use Rattle.grammar_descent.specs.AllReaders.{readers}
 use Rattle.grammar_descent.specs.InitialiserSteps as step
-use Rattle.c_parser.specs.Closing.{closed}
+use Rattle.c_parser.specs.ListEnd.{list_end}
 use Rattle.token_reader.specs.Input.{Reads}
 use Rattle.token_reader.proofs.Turns.{one_more, no_more}
 use Rattle.token_reader.proofs.Reading.{found, none}
@@ -26,6 +26,7 @@ initialiser-returns-else-depth-eq0 t c =
       answer = rw e c.braces-found.ensures.answer;
       text = c.braces-found.ensures.text;
       tokens = c.braces-found.ensures.tokens;
+      texts = c.braces-found.ensures.texts;
     } in
     same_reads (λ text ts. step.initialiser ts (readers text ts) c.args.depth) c.args.reader.now c.braces-found.new.reader c.braces-found.result c.refused_at.result c.refused_at.ensures read
 
@@ -37,6 +38,7 @@ initialiser-returns-else-sees_mark t c =
       answer = rw (s.initialiser-value ts (readers text ts) c.args.depth c.args.reader.now.state (sym c.sees_mark.ensures.value ∙ c.if-sees_mark.false)) c.value.ensures.answer;
       text = c.value.ensures.text;
       tokens = c.value.ensures.tokens;
+      texts = c.value.ensures.texts;
     }
 
 pub initialisers-returns-in_err-initialiser : goal.initialisers-returns-in_err-initialiser
@@ -50,16 +52,16 @@ initialisers-returns-in_err-initialiser t c =
     let fails = s.initialisers-none ts (readers text ts) inner (length ts - (c.loop-turn._turn + 1)) c.loop-turn.found c.loop-turn.reader.state in
     first_of (search rules, grind (arith, common_steps))
 
-pub initialisers-returns-in_err-closed : goal.initialisers-returns-in_err-closed
-initialisers-returns-in_err-closed t c =
+pub initialisers-returns-in_err-read_list_end : goal.initialisers-returns-in_err-read_list_end
+initialisers-returns-in_err-read_list_end t c =
     let text = c.args.reader.now.text in
     let ts = c.args.reader.now.tokens in
     let inner = step.initialiser ts (readers text ts) c.args.depth in
     let e = one_more (λ n. step.initialisers ts (readers text ts) inner n c.loop-turn.found c.loop-turn.reader.state) _ c.loop-turn._turn c.loop-turn-test.true c.loop-turn.invariant.same in
     let next = found (λ text ts. step.initialiser ts (readers text ts) c.args.depth) c.args.reader.now c.loop-turn.reader c.initialiser.new.reader c.in_ok-initialiser.field-0
     c.loop-turn.invariant.text c.loop-turn.invariant.tokens c.in_ok-initialiser.ensures in
-    let gone = none (λ text ts. closed ts) c.args.reader.now c.initialiser.new.reader c.closed.new.reader c.in_err-closed.field-0.0
-    (c.initialiser.ensures.text ∙ c.loop-turn.invariant.text) (c.initialiser.ensures.tokens ∙ c.loop-turn.invariant.tokens) c.in_err-closed.ensures in
+    let gone = none (λ text ts. list_end ts) c.args.reader.now c.initialiser.new.reader c.read_list_end.new.reader c.in_err-read_list_end.field-0.0
+    (c.initialiser.ensures.text ∙ c.loop-turn.invariant.text) (c.initialiser.ensures.tokens ∙ c.loop-turn.invariant.tokens) c.in_err-read_list_end.ensures in
     let fails = s.initialisers-fail ts (readers text ts) inner (length ts - (c.loop-turn._turn + 1)) c.loop-turn.found c.loop-turn.reader.state c.initialiser.new.reader.state c.in_ok-initialiser.field-0 next in
     first_of (search rules, grind (arith, common_steps))
 
@@ -71,9 +73,9 @@ initialisers-returns-then-branch t c =
     let e = one_more (λ n. step.initialisers ts (readers text ts) inner n c.loop-turn.found c.loop-turn.reader.state) _ c.loop-turn._turn c.loop-turn-test.true c.loop-turn.invariant.same in
     let next = found (λ text ts. step.initialiser ts (readers text ts) c.args.depth) c.args.reader.now c.loop-turn.reader c.initialiser.new.reader c.in_ok-initialiser.field-0
     c.loop-turn.invariant.text c.loop-turn.invariant.tokens c.in_ok-initialiser.ensures in
-    let ends = found (λ text ts. closed ts) c.args.reader.now c.initialiser.new.reader c.closed.new.reader c.in_ok-closed.field-0
-    (c.initialiser.ensures.text ∙ c.loop-turn.invariant.text) (c.initialiser.ensures.tokens ∙ c.loop-turn.invariant.tokens) c.in_ok-closed.ensures in
-    let all = s.initialisers-end ts (readers text ts) inner (length ts - (c.loop-turn._turn + 1)) c.loop-turn.found c.loop-turn.reader.state c.initialiser.new.reader.state c.closed.new.reader.state
+    let ends = found (λ text ts. list_end ts) c.args.reader.now c.initialiser.new.reader c.read_list_end.new.reader c.in_ok-read_list_end.field-0
+    (c.initialiser.ensures.text ∙ c.loop-turn.invariant.text) (c.initialiser.ensures.tokens ∙ c.loop-turn.invariant.tokens) c.in_ok-read_list_end.ensures in
+    let all = s.initialisers-end ts (readers text ts) inner (length ts - (c.loop-turn._turn + 1)) c.loop-turn.found c.loop-turn.reader.state c.initialiser.new.reader.state c.read_list_end.new.reader.state
     c.in_ok-initialiser.field-0 next in
     first_of (search rules, grind (arith, common_steps))
 
@@ -85,9 +87,9 @@ initialisers-loop-turn-preserved t c =
     let e = one_more (λ n. step.initialisers ts (readers text ts) inner n c.loop-turn.found c.loop-turn.reader.state) _ c.loop-turn._turn c.loop-turn-test.true c.loop-turn.invariant.same in
     let next = found (λ text ts. step.initialiser ts (readers text ts) c.args.depth) c.args.reader.now c.loop-turn.reader c.initialiser.new.reader c.in_ok-initialiser.field-0
     c.loop-turn.invariant.text c.loop-turn.invariant.tokens c.in_ok-initialiser.ensures in
-    let ends = found (λ text ts. closed ts) c.args.reader.now c.initialiser.new.reader c.closed.new.reader c.in_ok-closed.field-0
-    (c.initialiser.ensures.text ∙ c.loop-turn.invariant.text) (c.initialiser.ensures.tokens ∙ c.loop-turn.invariant.tokens) c.in_ok-closed.ensures in
-    let all = s.initialisers-more ts (readers text ts) inner (length ts - (c.loop-turn._turn + 1)) c.loop-turn.found c.loop-turn.reader.state c.initialiser.new.reader.state c.closed.new.reader.state
+    let ends = found (λ text ts. list_end ts) c.args.reader.now c.initialiser.new.reader c.read_list_end.new.reader c.in_ok-read_list_end.field-0
+    (c.initialiser.ensures.text ∙ c.loop-turn.invariant.text) (c.initialiser.ensures.tokens ∙ c.loop-turn.invariant.tokens) c.in_ok-read_list_end.ensures in
+    let all = s.initialisers-more ts (readers text ts) inner (length ts - (c.loop-turn._turn + 1)) c.loop-turn.found c.loop-turn.reader.state c.initialiser.new.reader.state c.read_list_end.new.reader.state
     c.in_ok-initialiser.field-0 next in
     first_of (search rules, grind (arith, common_steps))
 

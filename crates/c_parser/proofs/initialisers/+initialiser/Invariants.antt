@@ -16,6 +16,7 @@ abbrev pub invariant-initialisers-loop-turn : goal.invariant-initialisers-loop-t
 invariant-initialisers-loop-turn l = record {
   text : l.reader.text ≡ l.fn.reader.text;
   tokens : l.reader.tokens ≡ l.fn.reader.tokens;
+  texts : l.reader.texts ≡ l.fn.reader.texts;
   same : step.initialisers l.fn.reader.tokens (readers l.fn.reader.text l.fn.reader.tokens) (step.initialiser l.fn.reader.tokens (readers l.fn.reader.text l.fn.reader.tokens) l.depth)
       (length l.fn.reader.tokens) [] l.fn.reader.state ≡
       step.initialisers l.fn.reader.tokens (readers l.fn.reader.text l.fn.reader.tokens) (step.initialiser l.fn.reader.tokens (readers l.fn.reader.text l.fn.reader.tokens) l.depth)

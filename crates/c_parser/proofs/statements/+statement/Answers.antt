@@ -16,7 +16,8 @@ returns t c =
     let text = c.args.reader.now.text in
     let ts = c.args.reader.now.tokens in
     record {
-      answer = rw (statement-suc text ts (readers text ts) c.args.depth c.args.reader.now.state (omega arith)) c.any.ensures.answer;
-      text = c.any.ensures.text;
-      tokens = c.any.ensures.tokens;
+      answer = rw (statement-suc text ts (readers text ts) c.args.depth c.args.reader.now.state (omega arith)) c.read_statement.ensures.answer;
+      text = c.read_statement.ensures.text;
+      tokens = c.read_statement.ensures.tokens;
+      texts = c.read_statement.ensures.texts;
     }

@@ -12,8 +12,8 @@ returns-then-sees_mark c = external_read _ _ _ (first_of (search rules, grind (a
 pub returns-in_err-first : goal.returns-in_err-first
 returns-in_err-first c = external_read _ _ _ (first_of (search rules, grind (arith, common_steps)))
 
-pub returns-in_err-declarator : goal.returns-in_err-declarator
-returns-in_err-declarator c = external_read _ _ _ (first_of (search rules, grind (arith, common_steps)))
+pub returns-in_err-body : goal.returns-in_err-body
+returns-in_err-body c = external_read _ _ _ (first_of (search rules, grind (arith, common_steps)))
 
 pub returns-then-sees_mark-2 : goal.returns-then-sees_mark-2
 returns-then-sees_mark-2 c = external_read _ _ _ (first_of (search rules, grind (arith, common_steps)))

@@ -16,7 +16,7 @@ loop-turn-preserved c =
     let e = one_more (λ n. qualifiers c.args.reader.now.tokens n c.loop-turn.found c.loop-turn.reader.state) _ c.loop-turn._turn c.loop-turn-test.true c.loop-turn.invariant.rest in
     let some : qualifier_at c.args.reader.now.tokens c.loop-turn.reader.state.at ≡ Some c.in-Some.qualifier = first_of (cc, grind (arith, common_steps)) in
     let rest = qualifiers_more _ _ _ _ _ _ e some in
-    record { rest = first_of (search rules, grind (arith, common_steps)); text = first_of (cc, grind (arith, common_steps)); tokens = first_of (cc, grind (arith, common_steps)) }
+    record { rest = first_of (search rules, grind (arith, common_steps)); text = first_of (cc, grind (arith, common_steps)); tokens = first_of (cc, grind (arith, common_steps)); texts = first_of (cc, grind (arith, common_steps)) }
 
 pub returns-clause-value : goal.returns-clause-value
 returns-clause-value c =

@@ -19,4 +19,5 @@ returns g c =
       answer = rw (block-suc text ts (readers text ts) c.args.self.now.depth c.args.reader.now.state (omega arith)) c.block.ensures.answer;
       text = c.block.ensures.text;
       tokens = c.block.ensures.tokens;
+      texts = c.block.ensures.texts;
     }

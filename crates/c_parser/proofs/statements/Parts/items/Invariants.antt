@@ -7,6 +7,7 @@ abbrev pub invariant-loop-turn : goal.invariant-loop-turn
 invariant-loop-turn g l = record {
   text : l.reader.text ≡ l.fn.reader.text;
   tokens : l.reader.tokens ≡ l.fn.reader.tokens;
+  texts : l.reader.texts ≡ l.fn.reader.texts;
   same : step.items l.fn.reader.text l.fn.reader.tokens (readers l.fn.reader.text l.fn.reader.tokens) l.depth
       (step.statement l.fn.reader.text l.fn.reader.tokens (readers l.fn.reader.text l.fn.reader.tokens) l.depth) (length l.fn.reader.tokens) [] l.fn.reader.state ≡
       step.items l.fn.reader.text l.fn.reader.tokens (readers l.fn.reader.text l.fn.reader.tokens) l.depth

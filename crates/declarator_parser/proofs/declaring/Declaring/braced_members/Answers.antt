@@ -7,4 +7,5 @@ returns-then-self-eq0 g c = record {
   answer = λ at is. no_braced c.args.self.now.depth c.args.reader.now.text c.args.reader.now.tokens c.args.which c.args.tag c.args.start c.args.reader.now.state c.if-self-eq0.true;
   text = refl;
   tokens = refl;
+  texts = refl;
 }

@@ -10,5 +10,6 @@ invariant-loop-turn g l = record {
       ≡ enumerators l.fn.reader.text l.fn.reader.tokens (readers l.fn.reader.text l.fn.reader.tokens l.self.depth).expression (l._turn-end - l._turn) l.found l.high l.reader.state;
   text : l.reader.text ≡ l.fn.reader.text;
   tokens : l.reader.tokens ≡ l.fn.reader.tokens;
+  texts : l.reader.texts ≡ l.fn.reader.texts;
   low : l.high ≤ l.self.depth;
 }

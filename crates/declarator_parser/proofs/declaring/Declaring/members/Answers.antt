@@ -2,7 +2,7 @@ use Rattle.std.proofs.Common.{◌≡◌, ◌-◌, ◌+◌, suc, ◌&&◌, true, 
 use Rattle.std.proofs.lemmas.Grind.{common_steps}
 use Rattle.c_tokens.specs.declared.kind.Kind.TheVariants as k
 use Rattle.c_tokens.specs.declared.kind.Mark.TheVariants as mark
-use Rattle.grammar_descent.specs.Reading.{mark_at, sees, named}
+use Rattle.grammar_descent.specs.Reading.{mark_at, sees}
 use Rattle.grammar_descent.specs.AllReaders.{readers}
 use Rattle.grammar_descent.specs.SpecifierSteps.{declarators, members, member_at, enumerators, enumerator_at}
 use Rattle.declarator_parser.specs.Below.{below}

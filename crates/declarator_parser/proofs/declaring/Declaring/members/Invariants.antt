@@ -10,5 +10,6 @@ invariant-loop-turn g l = record {
       ≡ members l.fn.reader.text l.fn.reader.tokens (below l.fn.reader.text l.fn.reader.tokens l.self.depth) (l._turn-end - l._turn) l.found l.high l.reader.state;
   text : l.reader.text ≡ l.fn.reader.text;
   tokens : l.reader.tokens ≡ l.fn.reader.tokens;
+  texts : l.reader.texts ≡ l.fn.reader.texts;
   low : l.high < l.self.depth;
 }

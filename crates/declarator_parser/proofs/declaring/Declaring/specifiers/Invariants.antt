@@ -11,4 +11,5 @@ invariant-loop-turn g l = record {
       ≡ specifiers l.fn.reader.text l.fn.reader.tokens (readers l.fn.reader.text l.fn.reader.tokens l.self.depth).expression (below l.fn.reader.text l.fn.reader.tokens l.self.depth) (l._turn-end - l._turn) (roles_of l.found) l.found l.high l.reader.state;
   text : l.reader.text ≡ l.fn.reader.text;
   tokens : l.reader.tokens ≡ l.fn.reader.tokens;
+  texts : l.reader.texts ≡ l.fn.reader.texts;
 }

@@ -1,5 +1,6 @@
 use Rattle.std.proofs.Common.{◌≤◌}
-use Rattle.c_grammar.specs.Operators.{conditional}
+use Rattle.c_grammar.specs.Operators.{tightness}
+use Rattle.c_grammar.specs.declared.words.Level.TheVariants as of
 use Rattle.token_reader.specs.Nests.{FoundExpression}
 use Rattle.declarator_parser.proofs.Depths.{expression-low}
 use Rattle.token_reader.proofs.Refusals.{same_found}
@@ -11,4 +12,4 @@ returns-clause-low g c =
     same_found (λ (f : FoundExpression). f.1 ≤ c.args.self.now.depth) c.expression-found.result c.refused_at.result c.refused_at.ensures
     (expression-low c.args.reader.now.text c.args.reader.now.tokens c.args.self.now.depth
     (c.law_readers.ensures.phrases c.args.reader.now.text c.args.reader.now.tokens c.args.self.now.depth)
-    conditional c.args.reader.now.state c.expression-found.new.arg3.state c.expression-found.result h.answer)
+    (tightness of.Conditional) c.args.reader.now.state c.expression-found.new.arg3.state c.expression-found.result h.answer)

@@ -6,5 +6,5 @@ use Rattle.token_reader.proofs.scope.Scope.close.Goals as goal
 pub returns : goal.returns
 returns c =
     let called : c.close.new.self ≡ take c.args.count c.self.inside.names = first_of (search rules, grind (arith, common_steps)) in
-    let items : c.truncate.new.self.items ≡ take c.args.count c.self.inside.uses.items = first_of (search rules, grind (arith, common_steps)) in
-    scope_closed c.self.inside.names c.self.inside.uses.items c.args.self.now c.self.view_is c.self.invariant c.close.new.self c.truncate.new.self.items c.args.count called items
+    let items : c.truncate.new.self.items ≡ take c.args.count c.self.inside.kinds.items = first_of (search rules, grind (arith, common_steps)) in
+    scope_closed c.self.inside.names c.self.inside.kinds.items c.args.self.now c.self.view_is c.self.invariant c.close.new.self c.truncate.new.self.items c.args.count called items

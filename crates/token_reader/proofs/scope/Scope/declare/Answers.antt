@@ -5,6 +5,6 @@ use Rattle.token_reader.proofs.scope.Scope.declare.Goals as goal
 
 pub returns-clause-ok : goal.returns-clause-ok
 returns-clause-ok c =
-    let called : c.declare.new.self ≡ c.self.inside.names ++ c.args.name.now ∷ [] = first_of (search rules, grind (arith, common_steps)) in
-    let items : c.push-stored.new.self.items ≡ c.self.inside.uses.items ++ c.args.what ∷ [] = first_of (search rules, grind (arith, common_steps)) in
-    scope_declared c.self.inside.names c.self.inside.uses.items c.args.self.now c.self.view_is c.self.invariant c.declare.new.self c.push-stored.new.self.items c.args.name.now c.args.what called items
+    let called : c.declare.new.self ≡ c.self.inside.names ++ c.args.name ∷ [] = first_of (search rules, grind (arith, common_steps)) in
+    let items : c.push-stored.new.self.items ≡ c.self.inside.kinds.items ++ c.args.kind ∷ [] = first_of (search rules, grind (arith, common_steps)) in
+    scope_declared c.self.inside.names c.self.inside.kinds.items c.args.self.now c.self.view_is c.self.invariant c.declare.new.self c.push-stored.new.self.items c.args.name c.args.kind called items

@@ -5,5 +5,5 @@ use Rattle.token_reader.proofs.scope.Scope.len.Goals as goal
 
 pub returns : goal.returns
 returns c =
-    let e = scope_length c.self.inside.names c.self.inside.uses.items c.args.self.now c.self.view_is c.self.invariant in
+    let e = scope_length c.self.inside.names c.self.inside.kinds.items c.args.self.now c.self.view_is c.self.invariant in
     first_of (search rules, grind (arith, common_steps))
