@@ -1,3 +1,1 @@
-pub mod ScopeLemmas
 pub mod StepLemmas
-pub mod StringLemmas

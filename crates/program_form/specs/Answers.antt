@@ -5,14 +5,14 @@ use Rattle.program_form.specs.declared.error.Unfit.{Unfit}
 use Rattle.program_form.specs.declared.error.Unfit.TheVariants.{Outside}
 use Rattle.program_form.specs.declared.error.FormError.{FormError}
 use Rattle.program_form.specs.declared.error.FormError.TheVariants as refusal
-use Rattle.program_form.specs.Variables.{Variable}
+use Rattle.form_parts.specs.Variables.{Variable}
 
 -- the answer, unless memory runs out
 abbrev pub Gives : {A : Type 0} → Result A Unfit → Option A → Type 0
 Gives (Ok x) answer = answer ≡ Some x
 Gives (Err e) answer = e ≡ Outside → answer ≡ None
 
--- the answer, and what is in scope behind it, unless memory runs out
+-- the answer, and what is in scope after it, unless memory runs out
 abbrev pub GivesIn : {A : Type 0} → Result A Unfit → List Variable → Option (A × List Variable) → Type 0
 GivesIn (Ok x) after answer = answer ≡ Some (x, after)
 GivesIn (Err e) after answer = e ≡ Outside → answer ≡ None

@@ -1,11 +1,6 @@
-pub mod Variables
 pub mod Answers
-pub mod Layers
-pub mod Types
 pub mod Numbers
-pub mod Pointers
 pub mod Actions
 pub mod Declarations
 pub mod Statements
-pub mod Strings
 pub mod Programs

@@ -10,9 +10,10 @@ use Rattle.plain_meaning.specs.declared.tree.Operator.{Operator}
 use Rattle.plain_meaning.specs.declared.tree.Operator.TheVariants as op
 use Rattle.plain_meaning.specs.declared.tree.Expression.{Expression}
 use Rattle.plain_meaning.specs.declared.tree.Expression.TheVariants as e
-use Rattle.program_form.specs.Layers.{ExpressionLayer, ◌>>=◌}
-use Rattle.program_form.specs.Variables.{Variable, number_of}
-use Rattle.program_form.specs.Pointers.{pointer}
+use Rattle.token_texts.specs.Texts.{Texts, number_at}
+use Rattle.form_parts.specs.Layers.{ExpressionLayer, ◌>>=◌}
+use Rattle.form_parts.specs.Variables.{Variable, number_of}
+use Rattle.form_parts.specs.Pointers.{pointer}
 
 abbrev pub operator : Binary → Option Operator
 operator binary.Multiply = Some op.Multiply
@@ -28,21 +29,23 @@ abbrev pub constant : ℕ → NumType → Option ℤ
 constant value numtype.Int = if nat_lt value (2 ^ 31) then Some (pos value) else None
 constant value _ = None
 
-abbrev pub number_at : List Variable → (Syntax → Option Expression) → ExpressionLayer → Option Expression
-number_at scope inner (Expression-F.Expression::Name place name) = number_of scope name >>= λ variable. Some (e.Variable variable)
-number_at scope inner (Expression-F.Number place value type) = constant value type >>= λ n. Some (e.Number n)
-number_at scope inner (Expression-F.Expression::Parentheses place within) = inner within
-number_at scope inner (Expression-F.Binary place operation left right) =
-    operator operation >>= λ found. inner left >>= λ a. inner right >>= λ b. Some (e.Binary found a b)
-number_at scope inner (Expression-F.Index place array index) =
-    pointer scope array >>= λ p. inner index >>= λ i. Some (e.Element p i)
-number_at scope inner _ = None
+module _ (texts : Texts) where
+  module _ (inner : Syntax → Option Expression) where
+    abbrev pub number_with : List Variable → ExpressionLayer → Option Expression
+    number_with scope (Expression-F.Expression::Name place) = number_of scope (number_at texts place.token) >>= λ variable. Some (e.Variable variable)
+    number_with scope (Expression-F.Number place value type) = constant value type >>= λ n. Some (e.Number n)
+    number_with scope (Expression-F.Expression::Parentheses place within) = inner within
+    number_with scope (Expression-F.Binary place operation left right) =
+        operator operation >>= λ found. inner left >>= λ a. inner right >>= λ b. Some (e.Binary found a b)
+    number_with scope (Expression-F.Index place array index) =
+        pointer texts scope array >>= λ p. inner index >>= λ i. Some (e.Element p i)
+    number_with scope _ = None
 
--- whose parts are read so
-unfoldable pub number_by : List Variable → (Syntax → Option Expression) → Syntax → Option Expression
-number_by scope inner syntax = number_at scope inner (out-Expression syntax)
+    -- whose parts are read so
+    unfoldable pub number_by : List Variable → Syntax → Option Expression
+    number_by scope syntax = number_with scope (out-Expression syntax)
 
--- A name of a number, a constant, parentheses, an operator, or an element of a pointer, nested no deeper than `depth`.
-unfoldable pub number : List Variable → ℕ → Syntax → Option Expression
-number scope zero syntax = None
-number scope (suc depth) syntax = number_by scope (number scope depth) syntax
+  -- A name of a number, a constant, parentheses, an operator, or an element of a pointer, nested no deeper than `depth`.
+  unfoldable pub number : ℕ → List Variable → Syntax → Option Expression
+  number zero scope syntax = None
+  number (suc depth) scope syntax = number_by (number depth scope) scope syntax

@@ -5,79 +5,80 @@ ghost use Rattle.std.specs.Option.{option_copied};
 ghost use Rattle.program_form.specs.Answers.{Gives, GivesIn};
 ghost use Rattle.program_form.specs.Declarations as spec;
 
-use crate::actions::MAX_DEPTH;
 use crate::error::Unfit;
 use crate::numbers::number;
-use crate::pointers::{cast, malloc};
-use crate::scope::Scope;
-use crate::sort::Sort;
-use crate::types::{behind_star, declared_name, only, target};
-use c_grammar::{Declaration, Declarator, Expression, Initialiser};
+use c_grammar::{Declaration, Declarator, Expression, Initialiser, MAX_DEPTH};
+use form_parts::{Scope, Sort, after_star, cast, declared_name, malloc, only, target};
 use plain_meaning::{Statement, Target};
 use std::alloc::Global;
+use token_texts::TokenTexts;
 
 /// `int NAME = value;`, in a block whose variables begin at `start`.
-#[tactic(auto, unfolding(crate::specs::Declarations::number_declared))]
-fn number_declared(
+#[tactic(auto, unfolding(crate::specs::Declarations::number_declaration))]
+fn number_declaration(
     alloc: Global,
+    texts: &TokenTexts,
     scope: &mut Scope,
     start: usize,
     line: u32,
-    name: &[u8],
+    name: u32,
     value: &Expression,
 ) -> Result<Statement, Unfit>
-    ensures value { GivesIn result scope.new (spec.number_declared start scope.old line name.now value.now) }
+    ensures value { GivesIn result scope.new (spec.number_declaration texts.now start scope.old line name value.now) }
     ensures outside { OnOk result (take (length scope.old) scope.new ≡ scope.old) }
 {
-    if scope.is_taken(start, name) {
+    if scope.is_taken(texts, start, name) {
         return Err(Unfit::Outside);
     }
-    scope.declare(alloc, name, Sort::Number)?;
-    let value = number(alloc, scope, MAX_DEPTH, value)?;
+    scope.declare(name, Sort::Number)?;
+    let value = number(alloc, texts, scope, MAX_DEPTH, value)?;
     Ok(Statement::Declaration(line, value))
 }
 
 /// `malloc(SIZE)` or `(TARGET *)SOURCE`, as the value of a new pointer.
 fn pointer_value(
+    texts: &TokenTexts,
     scope: &Scope,
     line: u32,
     target: Target,
     value: &Expression,
 ) -> Result<Statement, Unfit>
-    ensures { Gives result (spec.pointer_value scope.now line target value.now) }
+    ensures { Gives result (spec.pointer_value texts.now scope.now line target value.now) }
 {
-    if let Some(size) = malloc(value) {
+    if let Some(size) = malloc(texts, value) {
         return Ok(Statement::Allocation(line, target, size));
     }
-    match cast(scope, target, value) {
+    match cast(texts, scope, target, value) {
         Some(source) => Ok(Statement::PointerDeclaration(line, target, source)),
         None => Err(Unfit::Outside),
     }
 }
 
 /// `TARGET *NAME = ..;`, in a block whose variables begin at `start`.
-#[tactic(auto, unfolding(crate::specs::Declarations::pointer_declared))]
-fn pointer_declared(
+#[tactic(auto, unfolding(crate::specs::Declarations::pointer_declaration))]
+fn pointer_declaration(
     alloc: Global,
+    texts: &TokenTexts,
     scope: &mut Scope,
     start: usize,
     line: u32,
     target: Target,
-    name: &[u8],
+    name: u32,
     value: &Expression,
 ) -> Result<Statement, Unfit>
-    ensures value { GivesIn result scope.new (spec.pointer_declared start scope.old line target name.now value.now) }
+    ensures value { GivesIn result scope.new (spec.pointer_declaration texts.now start scope.old line target name value.now) }
     ensures outside { OnOk result (take (length scope.old) scope.new ≡ scope.old) }
 {
-    if scope.is_taken(start, name) {
+    if scope.is_taken(texts, start, name) {
         return Err(Unfit::Outside);
     }
-    scope.declare(alloc, name, Sort::Pointer(target))?;
-    pointer_value(scope, line, target, value)
+    scope.declare(name, Sort::Pointer(target))?;
+    pointer_value(texts, scope, line, target, value)
 }
 
-fn declared_by(
+fn declaration_of(
     alloc: Global,
+    texts: &TokenTexts,
     scope: &mut Scope,
     start: usize,
     line: u32,
@@ -85,23 +86,26 @@ fn declared_by(
     declarator: &Declarator,
     value: &Expression,
 ) -> Result<Statement, Unfit>
-    ensures value { GivesIn result scope.new (spec.declared_as start scope.old line target declarator.now value.now) }
+    ensures value { GivesIn result scope.new (spec.declaration_of texts.now start scope.old line target declarator.now value.now) }
     ensures outside { OnOk result (take (length scope.old) scope.new ≡ scope.old) }
 {
-    if let Some(inner) = behind_star(declarator) {
-        return match declared_name(inner) {
-            Some(name) => pointer_declared(alloc, scope, start, line, target, name.bytes(), value),
+    if let Some(inner) = after_star(declarator) {
+        return match declared_name(texts, inner) {
+            Some(name) => pointer_declaration(
+                alloc, texts, scope, start, line, target, name, value,
+            ),
             None => Err(Unfit::Outside),
         };
     }
-    match (declared_name(declarator), target) {
+    match (declared_name(texts, declarator), target) {
         (Some(name), Target::Int) => {
-            number_declared(alloc, scope, start, line, name.bytes(), value)
+            number_declaration(alloc, texts, scope, start, line, name, value)
         }
         _ => Err(Unfit::Outside),
     }
 }
 
+/// The value that an initialiser is, if it is no list in braces.
 #[tactic(auto, unfolding(crate::specs::Declarations::value_of))]
 fn value_of(initialiser: &Initialiser) -> Option<&Expression>
     ensures { option_copied result ≡ spec.value_of initialiser.now }
@@ -112,26 +116,36 @@ fn value_of(initialiser: &Initialiser) -> Option<&Expression>
     }
 }
 
-/// A declaration in a block whose variables begin at `start`. What it declares is in scope behind it.
-#[tactic(auto, unfolding(crate::specs::Declarations::declared))]
-pub fn declared(
+/// A declaration in a block whose variables begin at `start`. What it declares is in scope after it.
+#[tactic(auto, unfolding(crate::specs::Declarations::declaration))]
+pub fn declaration(
     alloc: Global,
+    texts: &TokenTexts,
     scope: &mut Scope,
     start: usize,
-    declaration: &Declaration,
+    syntax: &Declaration,
 ) -> Result<Statement, Unfit>
-    ensures value { GivesIn result scope.new (spec.declared start scope.old declaration.now) }
+    ensures value { GivesIn result scope.new (spec.declaration texts.now start scope.old syntax.now) }
     ensures outside { OnOk result (take (length scope.old) scope.new ≡ scope.old) }
 {
-    let Some(one) = only(declaration.declarators.as_slice()) else {
+    let Some(one) = only(syntax.declarators.as_slice()) else {
         return Err(Unfit::Outside);
     };
     let Some(initialiser) = &one.value else {
         return Err(Unfit::Outside);
     };
-    let (Some(value), Some(target)) = (value_of(initialiser), target(&declaration.specs)) else {
+    let (Some(value), Some(target)) = (value_of(initialiser), target(&syntax.specs)) else {
         return Err(Unfit::Outside);
     };
-    let line = declaration.place.line;
-    declared_by(alloc, scope, start, line, target, &one.declarator, value)
+    let line = syntax.place.line;
+    declaration_of(
+        alloc,
+        texts,
+        scope,
+        start,
+        line,
+        target,
+        &one.declarator,
+        value,
+    )
 }

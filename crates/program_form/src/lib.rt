@@ -5,14 +5,8 @@ mod actions;
 mod declarations;
 mod error;
 mod numbers;
-mod pointers;
 mod program;
-mod reserved;
-mod scope;
-mod sort;
 mod statements;
-mod strings;
-mod types;
 
 pub use error::FormError;
 pub use program::{law_form, program_of};

@@ -5,13 +5,13 @@ ghost use Rattle.program_form.specs.Answers.{Gives};
 ghost use Rattle.program_form.specs.Numbers as spec;
 
 use crate::error::Unfit;
-use crate::pointers::pointer;
-use crate::scope::Scope;
 use c_grammar::{Binary, Expression as Syntax};
 use c_tokens::NumType;
+use form_parts::{Scope, pointer};
 use plain_meaning::{Expression, Operator, Pointer};
 use sqlite_items::Boxed;
 use std::alloc::{AllocError, Global};
+use token_texts::TokenTexts;
 
 fn operator(operation: Binary) -> Option<Operator>
     ensures { result ≡ spec.operator operation }
@@ -37,7 +37,7 @@ fn constant(value: u64, number_type: NumType) -> Option<i32>
     }
 }
 
-fn joined(
+fn binary(
     alloc: Global,
     operator: Operator,
     left: Expression,
@@ -62,26 +62,33 @@ fn element(alloc: Global, pointer: Pointer, index: Expression) -> Result<Express
 #[cycle(number)]
 pub fn number(
     alloc: Global,
+    texts: &TokenTexts,
     scope: &Scope,
     depth: u32,
     syntax: &Syntax,
 ) -> Result<Expression, Unfit>
-    ensures { Gives result (spec.number scope.now depth syntax.now) }
+    ensures { Gives result (spec.number texts.now depth scope.now syntax.now) }
 {
     if depth == 0 {
         return Err(Unfit::Outside);
     }
-    number_by(alloc, scope, depth - 1, syntax)
+    number_by(alloc, texts, scope, depth - 1, syntax)
 }
 
 /// An expression of type `int` whose parts nest no deeper than `depth`.
 #[cycle(number)]
 #[tactic(auto, unfolding(crate::specs::Numbers::number_by))]
-fn number_by(alloc: Global, scope: &Scope, depth: u32, syntax: &Syntax) -> Result<Expression, Unfit>
-    ensures { Gives result (spec.number_by scope.now (spec.number scope.now depth) syntax.now) }
+fn number_by(
+    alloc: Global,
+    texts: &TokenTexts,
+    scope: &Scope,
+    depth: u32,
+    syntax: &Syntax,
+) -> Result<Expression, Unfit>
+    ensures { Gives result (spec.number_by texts.now (spec.number texts.now depth scope.now) scope.now syntax.now) }
 {
     match syntax {
-        Syntax::Name(_, name) => match scope.number(name.bytes()) {
+        Syntax::Name(place) => match scope.number(texts.number(place.token)) {
             Some(variable) => Ok(Expression::Variable(variable)),
             None => Err(Unfit::Outside),
         },
@@ -89,20 +96,20 @@ fn number_by(alloc: Global, scope: &Scope, depth: u32, syntax: &Syntax) -> Resul
             Some(value) => Ok(Expression::Number(value)),
             None => Err(Unfit::Outside),
         },
-        Syntax::Parentheses(_, inner) => number(alloc, scope, depth, inner.get()),
+        Syntax::Parentheses(_, inner) => number(alloc, texts, scope, depth, inner.get()),
         Syntax::Binary(_, operation, left, right) => {
             let Some(operator) = operator(*operation) else {
                 return Err(Unfit::Outside);
             };
-            let left = number(alloc, scope, depth, left.get())?;
-            let right = number(alloc, scope, depth, right.get())?;
-            Ok(joined(alloc, operator, left, right)?)
+            let left = number(alloc, texts, scope, depth, left.get())?;
+            let right = number(alloc, texts, scope, depth, right.get())?;
+            Ok(binary(alloc, operator, left, right)?)
         }
         Syntax::Index(_, array, index) => {
-            let Some(pointer) = pointer(scope, array.get()) else {
+            let Some(pointer) = pointer(texts, scope, array.get()) else {
                 return Err(Unfit::Outside);
             };
-            let index = number(alloc, scope, depth, index.get())?;
+            let index = number(alloc, texts, scope, depth, index.get())?;
             Ok(element(alloc, pointer, index)?)
         }
         _ => Err(Unfit::Outside),

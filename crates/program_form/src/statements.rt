@@ -4,18 +4,18 @@ ghost use Rattle.std.specs.Prelude.{◌≡◌, ◌≤◌, [], length, take, IfOk
 ghost use Rattle.program_form.specs.Answers.{Gives, GivesIn};
 ghost use Rattle.program_form.specs.Statements as spec;
 
-use crate::actions::{MAX_DEPTH, action};
-use crate::declarations::declared;
+use crate::actions::action;
+use crate::declarations::declaration;
 use crate::error::Unfit;
 use crate::numbers::number;
-use crate::scope::Scope;
-use c_grammar::{Block, BlockItem, Expression as Test, Statement as Syntax};
-use c_types::Text;
+use c_grammar::{Block, BlockItem, Expression as Test, MAX_DEPTH, Statement as Syntax};
+use form_parts::Scope;
 use plain_meaning::{Expression, Statement};
 use sqlite_items::{Boxed, Items};
 use std::alloc::{AllocError, Global};
+use token_texts::TokenTexts;
 
-fn guarded(
+fn make_if(
     alloc: Global,
     line: u32,
     test: Expression,
@@ -26,7 +26,7 @@ fn guarded(
     Ok(Statement::If(line, test, Boxed::new(alloc, then)?))
 }
 
-fn branched(
+fn make_if_else(
     alloc: Global,
     line: u32,
     test: Expression,
@@ -43,7 +43,7 @@ fn branched(
     ))
 }
 
-fn looped(
+fn make_while(
     alloc: Global,
     line: u32,
     test: Expression,
@@ -54,22 +54,22 @@ fn looped(
     Ok(Statement::While(line, test, Boxed::new(alloc, body)?))
 }
 
-/// A statement, nested no deeper than `depth`. `strings` are what the tokens of the text mean as strings.
+/// A statement, nested no deeper than `depth`.
 #[cycle(statement)]
 pub fn statement(
     alloc: Global,
-    strings: &[Text],
+    texts: &TokenTexts,
     scope: &mut Scope,
     depth: u32,
     syntax: &Syntax,
 ) -> Result<Statement, Unfit>
-    ensures value { Gives result (spec.statement strings.now depth scope.old syntax.now) }
+    ensures value { Gives result (spec.statement texts.now depth scope.old syntax.now) }
     ensures kept { OnOk result (scope.new ≡ scope.old) }
 {
     if depth == 0 {
         return Err(Unfit::Outside);
     }
-    statement_by(alloc, strings, scope, depth - 1, syntax)
+    statement_by(alloc, texts, scope, depth - 1, syntax)
 }
 
 /// A statement whose parts nest no deeper than `depth`.
@@ -77,23 +77,23 @@ pub fn statement(
 #[tactic(auto, unfolding(crate::specs::Statements::statement_by))]
 fn statement_by(
     alloc: Global,
-    strings: &[Text],
+    texts: &TokenTexts,
     scope: &mut Scope,
     depth: u32,
     syntax: &Syntax,
 ) -> Result<Statement, Unfit>
-    ensures value { Gives result (spec.statement_by strings.now (spec.statement strings.now depth) scope.old syntax.now) }
+    ensures value { Gives result (spec.statement_by texts.now (spec.statement texts.now depth) scope.old syntax.now) }
     ensures kept { OnOk result (scope.new ≡ scope.old) }
 {
     match syntax {
-        Syntax::Block(body) => block(alloc, strings, scope, depth, body),
-        Syntax::Expression(place, value) => action(alloc, strings, scope, place.line, value),
+        Syntax::Block(body) => block(alloc, texts, scope, depth, body),
+        Syntax::Expression(place, value) => action(alloc, texts, scope, place.line, value),
         Syntax::If(place, test, then) => {
-            conditional(alloc, strings, scope, depth, place.line, test, then.get())
+            if_statement(alloc, texts, scope, depth, place.line, test, then.get())
         }
-        Syntax::IfElse(place, test, then, otherwise) => either(
+        Syntax::IfElse(place, test, then, otherwise) => if_else_statement(
             alloc,
-            strings,
+            texts,
             scope,
             depth,
             place.line,
@@ -102,36 +102,36 @@ fn statement_by(
             otherwise.get(),
         ),
         Syntax::While(place, test, body) => {
-            repeated(alloc, strings, scope, depth, place.line, test, body.get())
+            while_statement(alloc, texts, scope, depth, place.line, test, body.get())
         }
         _ => Err(Unfit::Outside),
     }
 }
 
 #[cycle(statement)]
-#[tactic(auto, unfolding(crate::specs::Statements::conditional))]
-fn conditional(
+#[tactic(auto, unfolding(crate::specs::Statements::if_statement))]
+fn if_statement(
     alloc: Global,
-    strings: &[Text],
+    texts: &TokenTexts,
     scope: &mut Scope,
     depth: u32,
     line: u32,
     test: &Test,
     then: &Syntax,
 ) -> Result<Statement, Unfit>
-    ensures value { Gives result (spec.conditional strings.now (spec.statement strings.now depth) scope.old line test.now then.now) }
+    ensures value { Gives result (spec.if_statement texts.now (spec.statement texts.now depth) scope.old line test.now then.now) }
     ensures kept { OnOk result (scope.new ≡ scope.old) }
 {
-    let test = number(alloc, scope, MAX_DEPTH, test)?;
-    let then = statement(alloc, strings, scope, depth, then)?;
-    Ok(guarded(alloc, line, test, then)?)
+    let test = number(alloc, texts, scope, MAX_DEPTH, test)?;
+    let then = statement(alloc, texts, scope, depth, then)?;
+    Ok(make_if(alloc, line, test, then)?)
 }
 
 #[cycle(statement)]
-#[tactic(auto, unfolding(crate::specs::Statements::either))]
-fn either(
+#[tactic(auto, unfolding(crate::specs::Statements::if_else_statement))]
+fn if_else_statement(
     alloc: Global,
-    strings: &[Text],
+    texts: &TokenTexts,
     scope: &mut Scope,
     depth: u32,
     line: u32,
@@ -139,32 +139,32 @@ fn either(
     then: &Syntax,
     otherwise: &Syntax,
 ) -> Result<Statement, Unfit>
-    ensures value { Gives result (spec.either strings.now (spec.statement strings.now depth) scope.old line test.now then.now otherwise.now) }
+    ensures value { Gives result (spec.if_else_statement texts.now (spec.statement texts.now depth) scope.old line test.now then.now otherwise.now) }
     ensures kept { OnOk result (scope.new ≡ scope.old) }
 {
-    let test = number(alloc, scope, MAX_DEPTH, test)?;
-    let then = statement(alloc, strings, scope, depth, then)?;
-    let otherwise = statement(alloc, strings, scope, depth, otherwise)?;
-    Ok(branched(alloc, line, test, then, otherwise)?)
+    let test = number(alloc, texts, scope, MAX_DEPTH, test)?;
+    let then = statement(alloc, texts, scope, depth, then)?;
+    let otherwise = statement(alloc, texts, scope, depth, otherwise)?;
+    Ok(make_if_else(alloc, line, test, then, otherwise)?)
 }
 
 #[cycle(statement)]
-#[tactic(auto, unfolding(crate::specs::Statements::repeated))]
-fn repeated(
+#[tactic(auto, unfolding(crate::specs::Statements::while_statement))]
+fn while_statement(
     alloc: Global,
-    strings: &[Text],
+    texts: &TokenTexts,
     scope: &mut Scope,
     depth: u32,
     line: u32,
     test: &Test,
     body: &Syntax,
 ) -> Result<Statement, Unfit>
-    ensures value { Gives result (spec.repeated strings.now (spec.statement strings.now depth) scope.old line test.now body.now) }
+    ensures value { Gives result (spec.while_statement texts.now (spec.statement texts.now depth) scope.old line test.now body.now) }
     ensures kept { OnOk result (scope.new ≡ scope.old) }
 {
-    let test = number(alloc, scope, MAX_DEPTH, test)?;
-    let body = statement(alloc, strings, scope, depth, body)?;
-    Ok(looped(alloc, line, test, body)?)
+    let test = number(alloc, texts, scope, MAX_DEPTH, test)?;
+    let body = statement(alloc, texts, scope, depth, body)?;
+    Ok(make_while(alloc, line, test, body)?)
 }
 
 /// A block whose statements nest no deeper than `depth`.
@@ -172,15 +172,15 @@ fn repeated(
 #[tactic(auto, unfolding(crate::specs::Statements::block))]
 pub fn block(
     alloc: Global,
-    strings: &[Text],
+    texts: &TokenTexts,
     scope: &mut Scope,
     depth: u32,
     body: &Block,
 ) -> Result<Statement, Unfit>
-    ensures value { Gives result (spec.block strings.now (spec.statement strings.now depth) scope.old body.now) }
+    ensures value { Gives result (spec.block texts.now (spec.statement texts.now depth) scope.old body.now) }
     ensures kept { OnOk result (scope.new ≡ scope.old) }
 {
-    let all = items(alloc, strings, scope, depth, body.items.as_slice())?;
+    let all = items(alloc, texts, scope, depth, body.items.as_slice())?;
     Ok(Statement::Block(all))
 }
 
@@ -188,18 +188,18 @@ pub fn block(
 #[cycle(statement)]
 fn items(
     alloc: Global,
-    strings: &[Text],
+    texts: &TokenTexts,
     scope: &mut Scope,
     depth: u32,
     all: &[BlockItem],
 ) -> Result<Items<Statement>, Unfit>
-    ensures value { Gives result (spec.items strings.now (spec.statement strings.now depth) (length scope.old) scope.old [] all.now) }
+    ensures value { Gives result (spec.items texts.now (spec.statement texts.now depth) (length scope.old) scope.old [] all.now) }
     ensures kept { OnOk result (scope.new ≡ scope.old) }
 {
     let start = scope.len();
     let mut found = Items::new(alloc);
     for one in all {
-        let next = item(alloc, strings, scope, start, depth, one)?;
+        let next = item(alloc, texts, scope, start, depth, one)?;
         found.push(next)?;
     }
     scope.close(start);
@@ -211,17 +211,17 @@ fn items(
 #[tactic(auto, unfolding(crate::specs::Statements::item))]
 fn item(
     alloc: Global,
-    strings: &[Text],
+    texts: &TokenTexts,
     scope: &mut Scope,
     start: usize,
     depth: u32,
     one: &BlockItem,
 ) -> Result<Statement, Unfit>
-    ensures value { GivesIn result scope.new (spec.item strings.now (spec.statement strings.now depth) start scope.old one.now) }
+    ensures value { GivesIn result scope.new (spec.item texts.now (spec.statement texts.now depth) start scope.old one.now) }
     ensures outside { OnOk result (take (length scope.old) scope.new ≡ scope.old) }
 {
     match one {
-        BlockItem::Declaration(declaration) => declared(alloc, scope, start, declaration),
-        BlockItem::Statement(part) => statement(alloc, strings, scope, depth, part),
+        BlockItem::Declaration(syntax) => declaration(alloc, texts, scope, start, syntax),
+        BlockItem::Statement(part) => statement(alloc, texts, scope, depth, part),
     }
 }

@@ -4,6 +4,6 @@ use Rattle.program_form.proofs.program.functions.Given as goal
 
 abbrev pub invariant-loop-one : goal.invariant-loop-one
 invariant-loop-one l = record {
-  same : spec.functions l.strings [] [] l.all ≡ spec.functions l.strings l.names l.found (drop l.one-index l.all);
+  same : spec.functions l.texts [] [] l.all ≡ spec.functions l.texts l.names l.found (drop l.one-index l.all);
   few : length l.found ≤ l.one-index;
 }
