@@ -12,7 +12,7 @@ const OUT_OF_MEMORY: u8 = 6;
 
 const NO_WORDS: u8 = 10;
 
-/// The words behind the program's name.
+/// The words after the program's name.
 fn words(rt: &HostRuntime) -> io::Result<Vec<String>> {
     let mut words = Vec::new(rt.alloc());
     for word in env::args(rt)?.skip(1) {

@@ -1,5 +1,4 @@
 pub mod Outcomes
 pub mod Endings
-pub mod Passed
 pub mod Pieces
 pub mod Readings

@@ -5,22 +5,22 @@ use Rattle.std.proofs.lemmas.Bool.{cases_lt}
 use Rattle.plain_meaning.specs.declared.record.Ending.{Ending}
 use Rattle.plain_meaning.specs.declared.record.Record.{Record}
 use Rattle.plain_meaning.specs.declared.tree.Program.{Program}
-use Rattle.plain_meaning.specs.Names.{Named, IsEntry}
+use Rattle.plain_meaning.specs.Names.{HasName, IsEntry}
 use Rattle.heap_model.specs.declared.calls.Call.{Call}
 use Rattle.heap_model.specs.declared.calls.Reply.{Reply}
 use Rattle.heap_model.specs.Legal.{own}
 use Rattle.plain_meaning.specs.Acts.{Acts, Ends, Extends, Progress, feed}
 use Rattle.plain_meaning.specs.Run.{replies_of, worker, worker_acts}
-use Rattle.effsan_top.specs.Streams.{max_text}
+use Rattle.effs_io.specs.Streams.{max_text}
 use Rattle.effsan_top.specs.Words.{Words, entry_of}
 use Rattle.effsan_top.specs.declared.faults.TextFault.{TextFault}
 use Rattle.effsan_top.specs.Lines as line
 use Rattle.effsan_top.specs.Lines.{status_of}
 use Rattle.effsan_top.specs.Statuses.{Exactly, is_answer, is_run, is_status, run_status, some_reported, some_spent, status_by}
 use Rattle.effsan_top.specs.Causes.{IsFaulty as IsFaultyText}
-use Rattle.effsan_top.specs.Causes.{IsTooLarge, Accepts, LacksEntry, IsRefused, EndsAlone, HasRun, HasCause, AnswersAccepted, AnswersAlone, setting_of}
+use Rattle.effsan_top.specs.Causes.{IsTooLarge, Accepts, LacksEntry, IsWithoutRun, EndsAlone, HasRun, HasCause, AnswersAccepted, AnswersAlone, setting_of}
 use Rattle.effsan_top.specs.Answers.{RunsText, LacksName, IsFaulty, HasProgramCause, HasTextCause, OfRead, HasReadCause, HasNoRunFor, RunsFor}
-use Rattle.effsan_top.specs.Refusals.{seen}
+use Rattle.effsan_top.specs.Refusals.{cause_of}
 use Rattle.effsan_top.specs.Errors.{of_program}
 use Rattle.effsan_top.specs.declared.program.ProgramError.{ProgramError}
 use Rattle.effsan_top.specs.declared.program.ProgramError.TheVariants as error
@@ -28,7 +28,7 @@ use Rattle.effsan_top.specs.declared.program.ProgramError.TheVariants as error
 -- What the statuses that have a cause in the text say of this one.
 pub record Told (name text : List ℕ) (status : ℕ) : Type 0 where
   pub too_large : Exactly 7 status (IsTooLarge text)
-  pub refused : Exactly 3 status (IsRefused name text)
+  pub refused : Exactly 3 status (IsWithoutRun name text)
   pub accepted : AnswersAccepted status name text
   pub alone : AnswersAlone status name text
 
@@ -36,7 +36,7 @@ pub record Told (name text : List ℕ) (status : ℕ) : Type 0 where
 apart : (expected status : ℕ) (C : Type 0) → (status ≡ expected → ⊥) → (C → ⊥) → Exactly expected status C
 apart expected status C other none = (λ is. absurd (other is), λ has. absurd (none has))
 
--- a read fault, or want of memory, in the place of any other
+-- a read fault, or out of memory, in the place of any other
 in_place : (name text : List ℕ) (status : ℕ) → (status ≡ 4) ⊎ (status ≡ 6) → Told name text status
 in_place name text status (inl is) = record {
   too_large = (λ e. absurd (omega arith), λ _. inr (inl is));
@@ -63,11 +63,11 @@ entry_one program name a b p q = elim (cases_lt a b) [
 lacking : (name text : List ℕ) (program : Program) (entry : ℕ) → LacksName name text → Accepts name text program entry → ⊥
 lacking name text program entry l a =
     let same = l.read.only program a.read in
-    l.missing entry (subst (λ p. Named p entry name) same a.named.named)
+    l.missing entry (subst (λ p. HasName p entry name) same a.named.named)
 
 -- ---- a refusal
 
-by_refusal : (name text : List ℕ) (read : Type 0) (refusal : line.Refusal) → HasReadCause name (Some text) read refusal → Told name text (status_of refusal)
+by_refusal : (name text : List ℕ) (read : Type 0) (refusal : line.Cause) → HasReadCause name (Some text) read refusal → Told name text (status_of refusal)
 by_refusal name text read line.Words h = absurd h
 by_refusal name text read line.ReadFault h = in_place name text 4 (inl refl)
 by_refusal name text read line.TooLarge h = record {
@@ -92,7 +92,7 @@ by_refusal name text read line.OutOfMemory h = in_place name text 6 (inr refl)
 by_refusal name text read line.WriteFault h = absurd h
 
 -- the words of a refusal that is not of the words
-asked_by : (words : Words) (left : Option (List ℕ)) (read : Type 0) (refusal : line.Refusal) → HasNoRunFor words left read refusal →
+asked_by : (words : Words) (left : Option (List ℕ)) (read : Type 0) (refusal : line.Cause) → HasNoRunFor words left read refusal →
     ((entry_of words ≡ None) × (refusal ≡ line.Words)) ⊎ ((name : List ℕ) × (entry_of words ≡ Some name) × HasReadCause name left read refusal)
 asked_by words left read line.Words h = inl (h, refl)
 asked_by words left read line.ReadFault h = inr h
@@ -102,7 +102,7 @@ asked_by words left read (line.NotFound missing) h = inr h
 asked_by words left read line.OutOfMemory h = inr h
 asked_by words left read line.WriteFault h = inr h
 
-pub of_refusal : (words : Words) (left : Option (List ℕ)) (read : Type 0) (refusal : line.Refusal) → HasNoRunFor words left read refusal →
+pub of_refusal : (words : Words) (left : Option (List ℕ)) (read : Type 0) (refusal : line.Cause) → HasNoRunFor words left read refusal →
     (name text : List ℕ) → entry_of words ≡ Some name → left ≡ Some text → Told name text (status_of refusal)
 of_refusal words left read refusal h name text asked told = elim (asked_by words left read refusal h) [
   | inl none ↦ absurd (let e = none.0 in cc)
@@ -120,7 +120,7 @@ pub record IsRefusal (words : Words) (status : ℕ) : Type 0 where
   pub known : is_status status ≡ true
   pub unwritten : status ≡ 5 → ⊥
 
-pub is_refusal : (words : Words) (left : Option (List ℕ)) (read : Type 0) (refusal : line.Refusal) → HasNoRunFor words left read refusal → IsRefusal words (status_of refusal)
+pub is_refusal : (words : Words) (left : Option (List ℕ)) (read : Type 0) (refusal : line.Cause) → HasNoRunFor words left read refusal → IsRefusal words (status_of refusal)
 is_refusal words left read line.Words h =
     record { words_only = λ _. h; words_first = λ _. refl; answer = refl; run = refl; known = refl; unwritten = λ e. omega arith }
 is_refusal words left read line.ReadFault h =
@@ -144,7 +144,7 @@ lacks : (name : List ℕ) (left : Option (List ℕ)) → OfRead left (LacksName 
 lacks name None h = tt
 lacks name (Some text) h = record { fits = h.0; program = h.1.program; read = h.1.read.is; missing = h.1.missing }
 
-pub has_cause : (words : Words) (left : Option (List ℕ)) (read written : Type 0) (refusal : line.Refusal) → HasNoRunFor words left read refusal → HasCause words left read written refusal
+pub has_cause : (words : Words) (left : Option (List ℕ)) (read written : Type 0) (refusal : line.Cause) → HasNoRunFor words left read refusal → HasCause words left read written refusal
 has_cause words left read written line.Words h = h
 has_cause words left read written line.ReadFault h = h.2
 has_cause words left read written line.TooLarge h = h.2
@@ -193,11 +193,11 @@ module _ (name text : List ℕ) (run : Record) (fits : length text ≤ max_text)
       let here : (worker r.program (setting_of e.entry) []).end ≡ Ends ending = subst (λ p. (worker p (setting_of e.entry) []).end ≡ Ends ending) programs e.ended in
       same_end law ending (subst (λ n. (worker r.program (setting_of n) []).end ≡ Ends ending) entries here)
 
-  not_refused : IsRefused name text → ⊥
+  not_refused : IsWithoutRun name text → ⊥
   not_refused (inl u) = r.read.sound u.0 u.1 u.2.fault
   not_refused (inr l) =
       let same = r.read.only l.program l.read in
-      l.missing r.entry (subst (λ p. Named p r.entry name) (sym same) r.named.named)
+      l.missing r.entry (subst (λ p. HasName p r.entry name) (sym same) r.named.named)
 
   not_large : IsTooLarge text → ⊥
   not_large large = omega (arith, fits, large)
@@ -282,7 +282,7 @@ of_read : (left : Option (List ℕ)) (text : List ℕ) (P : List ℕ → Type 0)
 of_read None text P is fits p = tt
 of_read (Some told) text P is fits p = (rw (sym is) fits, subst P is p)
 
-pub text_cause : (words : Words) (left : Option (List ℕ)) (read : Type 0) (name text : List ℕ) (refusal : line.Refusal) → entry_of words ≡ Some name →
+pub text_cause : (words : Words) (left : Option (List ℕ)) (read : Type 0) (name text : List ℕ) (refusal : line.Cause) → entry_of words ≡ Some name →
     IfSome left (λ told. text ≡ told) → length text ≤ max_text → HasTextCause name text refusal → HasNoRunFor words left read refusal
 text_cause words left read name text (line.Faulty f l) asked is fits h = (name, asked, of_read left text (λ t. IsFaulty t f l) is fits h)
 text_cause words left read name text (line.NotFound missing) asked is fits h = (name, asked, (h.0, of_read left text (LacksName name) is fits h.1))
@@ -296,7 +296,7 @@ pub text_run : (words : Words) (left : Option (List ℕ)) (name text : List ℕ)
     IfSome left (λ told. text ≡ told) → length text ≤ max_text → RunsText name text run → RunsFor words left run
 text_run words left name text run asked is fits h = record { name = name; asked = asked; runs = of_read left text (λ t. RunsText name t run) is fits h }
 
-pub program_cause : (name text : List ℕ) (e : ProgramError) → HasProgramCause text e → HasTextCause name text (seen (of_program e))
+pub program_cause : (name text : List ℕ) (e : ProgramError) → HasProgramCause text e → HasTextCause name text (cause_of (of_program e))
 program_cause name text error.Memory h = tt
 program_cause name text (error.Faulty f l) h = h
 

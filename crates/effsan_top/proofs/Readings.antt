@@ -1,16 +1,14 @@
 -- What the lexer, the preprocessor and the parser say of a text, together.
-use Rattle.std.proofs.Common.{◌≡◌, ℕ, ◌<◌, ◌≤◌, List, [], ◌∷◌, length, refl, sym, ap, ◌∙◌, subst, ◌⊎◌, inl, inr, Result, Ok, Err, arith}
+use Rattle.std.proofs.Common.{◌≡◌, ℕ, ◌<◌, ◌≤◌, List, [], ◌∷◌, ◌++◌, length, refl, sym, ap, ◌∙◌, subst, ◌⊎◌, inl, inr, Result, Ok, Err, arith}
 use Rattle.std.specs.Prelude.{alloc_error, All, Contains}
 use Rattle.std.proofs.lemmas.List.Elements.{All-nil, All-cons, All-head, All-tail}
 use Rattle.c_tokens.specs.declared.token.Token.{Token}
 use Rattle.c_lexer.specs.declared.error.LexError.{LexError}
 use Rattle.c_lexer.specs.declared.error.LexError.TheVariants as lex
-use Rattle.c_lexer.specs.Lexes.{Tokens, IsRefused}
+use Rattle.c_lexer.specs.Lexes.{Tokens, IsLexFault}
 use Rattle.c_pp.specs.declared.error.PpError.{PpError}
 use Rattle.c_pp.specs.declared.error.PpError.TheVariants as pp
-use Rattle.c_pp.specs.Expands.{Expands}
-use Rattle.c_pp.specs.Expands.{IsRefused as IsStopped}
-use Rattle.c_pp.specs.Expands.{IsDrawn}
+use Rattle.c_pp.specs.Expands.{Expands, IsPpFault, IsDrawn}
 use Rattle.c_tokens.specs.declared.kind.Kind.TheVariants.{Str}
 use Rattle.c_lexer.specs.Escapes.{IsStringOf}
 use Rattle.c_grammar.specs.declared.units.Unit.{Unit}
@@ -21,7 +19,11 @@ use Rattle.plain_meaning.specs.declared.tree.Program.{Program}
 use Rattle.program_form.specs.declared.error.FormError.{FormError}
 use Rattle.program_form.specs.declared.error.FormError.TheVariants as form
 use Rattle.program_form.specs.Programs.{Forms, IsForm, IsOutside}
-use Rattle.program_form.specs.Strings.{MeansBytes, HaveStrings}
+use Rattle.token_texts.specs.Strings.{MeansBytes, HaveStrings}
+use Rattle.token_texts.specs.Names.{predefined}
+use Rattle.token_texts.specs.Strings as strings
+use Rattle.token_texts.specs.Texts as texts
+use Rattle.token_texts.specs.Texts.{distinct}
 use Rattle.effsan_top.specs.declared.faults.TextFault.{TextFault}
 use Rattle.effsan_top.specs.declared.faults.TextFault.TheVariants as fault
 use Rattle.effsan_top.specs.declared.program.ProgramError.{ProgramError}
@@ -39,7 +41,7 @@ StringsLaw text = (ts : List Token) (t : Token) → Tokens text ts → Contains 
 
 -- a unit is one program, or is outside the form for one line
 abbrev pub FormLaw : Type 0
-FormLaw = (text : List ℕ) (tokens : List Token) (unit : Unit) (a b : Result (List Function) ℕ) → Forms text tokens unit a → Forms text tokens unit b → a ≡ b
+FormLaw = (unit : Unit) (a b : Result (List Function) ℕ) → Forms unit a → Forms unit b → a ≡ b
 
 module _ (text : List ℕ) where
   -- ---- there are no tokens
@@ -50,7 +52,7 @@ module _ (text : List ℕ) where
   unlexed : {f : TextFault} {line : ℕ} → ((ts : List Token) → Tokens text ts → ⊥) → IsUnreadable text f line → IsFaulty text f line
   unlexed none is = record { fault = unreadable is; without = λ program p. none p.read.tokens p.read.lexed }
 
-  pub lexer_cause : (e : LexError) → (e ≡ lex.Memory alloc_error) ⊎ IsRefused text e → WithoutTokens e → HasProgramCause text (of_lexer text e)
+  pub lexer_cause : (e : LexError) → (e ≡ lex.Memory alloc_error) ⊎ IsLexFault text e → WithoutTokens e → HasProgramCause text (of_lexer text e)
   lexer_cause (lex.Memory m) r none = tt
   lexer_cause (lex.BadByte at) (inr r) none = unlexed (λ ts t. let m = none ts t in cc) (bad_byte r)
   lexer_cause (lex.OpenComment at) (inr r) none = unlexed (λ ts t. let m = none ts t in cc) (open_comment r)
@@ -78,7 +80,7 @@ module _ (text : List ℕ) where
           without = λ program p. none p.tokens (subst (λ ts. Expands text ts p.tokens) (sym (alone p.read.tokens p.read.lexed)) p.read.is);
         }
 
-    pub expander_cause : (e : PpError) → (e ≡ pp.Memory alloc_error) ⊎ IsStopped text tokens e → WithoutExpansion e → HasProgramCause text (of_expander e)
+    pub expander_cause : (e : PpError) → (e ≡ pp.Memory alloc_error) ⊎ IsPpFault text tokens e → WithoutExpansion e → HasProgramCause text (of_expander e)
     expander_cause (pp.Memory m) r none = tt
     expander_cause (pp.UnknownHeader line) (inr r) none = unexpanded (λ out x. let m = none out x in cc) (unknown_header lexed r)
     expander_cause (pp.BadDirective line) (inr r) none = unexpanded (λ out x. let m = none out x in cc) (bad_directive lexed r)
@@ -91,10 +93,10 @@ module _ (text : List ℕ) where
 
     -- ---- and this is what they become
 
-    module _ (unrefused : (e : LexError) → IsRefused text e → ⊥) (out : List Token) (expanded : Expands text tokens out)
-        (one : (other : List Token) → Expands text tokens other → out ≡ other) (unstopped : (e : PpError) → IsStopped text tokens e → ⊥) where
-      stopped : (ts : List Token) (e : PpError) → Tokens text ts → IsStopped text ts e → ⊥
-      stopped ts e t r = unstopped e (subst (λ ts. IsStopped text ts e) (sym (alone ts t)) r)
+    module _ (unrefused : (e : LexError) → IsLexFault text e → ⊥) (out : List Token) (expanded : Expands text tokens out)
+        (one : (other : List Token) → Expands text tokens other → out ≡ other) (unstopped : (e : PpError) → IsPpFault text tokens e → ⊥) where
+      stopped : (ts : List Token) (e : PpError) → Tokens text ts → IsPpFault text ts e → ⊥
+      stopped ts e t r = unstopped e (subst (λ ts. IsPpFault text ts e) (sym (alone ts t)) r)
 
       readable : (f : TextFault) (line : ℕ) → IsUnreadable text f line → ⊥
       readable f line (bad_byte r) = unrefused _ r
@@ -134,9 +136,18 @@ module _ (text : List ℕ) where
 -- ---- what the text becomes, and its unit
 
 -- where no unit is derived, there are tokens, since no tokens are a unit of nothing
+-- the unit of no tokens
+no_tokens : Unit
+no_tokens = record { items = []; texts = record { names = distinct (predefined ++ []); strings = []; numbers = [] } }
+
+texts_of_nothing : {text : List ℕ} → texts.AreTexts text [] no_tokens.texts
+unfolding no_tokens
+texts_of_nothing = record { literals = []; are_literals = strings.none; names = refl; strings = refl; numbers = texts.none }
+
 pub no_unit : (text : List ℕ) (tokens : List Token) (line : ℕ) → (0 < length tokens → (token : Token) × Contains tokens token × (line ≡ token.line)) →
     ((unit : Unit) → Derives text tokens unit → ⊥) → IsNoUnit text tokens fault.Syntax line
-no_unit text [] line at nothing = absurd (nothing (record { items = [] }) grammar.none)
+unfolding no_tokens
+no_unit text [] line at nothing = absurd (nothing no_tokens (record { items = grammar.none; texts = texts_of_nothing }))
 no_unit text (t ∷ ts) line at nothing =
     let some = at (omega arith) in
     record { named = refl; token = some.0; stands = some.1; on = some.2; none = nothing }
@@ -155,37 +166,35 @@ module _ (text : List ℕ) (tokens : List Token) (r : IsReading text tokens) whe
   module _ (unit : Unit) (derived : Derives text tokens unit) (single : (other : Unit) → Derives text tokens other → other ≡ unit) (law : FormLaw) where
     -- what the unit of the text is as a program
     same_form : (others : List Token) (other : Unit) (answer : Result (List Function) ℕ) → Reads text others → Derives text others other →
-        Forms text others other answer → Forms text tokens unit answer
+        Forms other answer → Forms unit answer
     same_form others other answer reads derives forms =
-        let ts = r.only others reads in
-        let here : Derives text tokens other = subst (λ l. Derives text l other) ts derives in
-        let there : Forms text tokens other answer = subst (λ l. Forms text l other answer) ts forms in
-        subst (λ u. Forms text tokens u answer) (single other here) there
+        let here : Derives text tokens other = subst (λ l. Derives text l other) (r.only others reads) derives in
+        subst (λ u. Forms u answer) (single other here) forms
 
-    form_of : (program : Program) → IsProgram text program → IsForm text tokens unit program
+    form_of : (program : Program) → IsProgram text program → IsForm unit program
     form_of program p = same_form p.tokens p.unit (Ok program.functions) p.read p.derived p.formed
 
-    pub not_yet : (line : ℕ) → IsOutside text tokens unit line → IsFaulty text fault.NotYet line
+    pub not_yet : (line : ℕ) → IsOutside unit line → IsFaulty text fault.NotYet line
     not_yet line is = record {
       fault = at_fault.not_yet r.reads derived is;
-      without = λ program p. (let e = law text tokens unit (Ok program.functions) (Err line) (form_of program p) is in cc);
+      without = λ program p. (let e = law unit (Ok program.functions) (Err line) (form_of program p) is in cc);
     }
 
-    pub form_cause : (e : FormError) → ((line : ℕ) → e ≡ form.NotYet line → IsOutside text tokens unit line) → HasProgramCause text (of_form e)
+    pub form_cause : (e : FormError) → ((line : ℕ) → e ≡ form.NotYet line → IsOutside unit line) → HasProgramCause text (of_form e)
     form_cause (form.Memory m) h = tt
     form_cause (form.NotYet line) h = not_yet line (h line refl)
 
-    sound : (program : Program) → IsForm text tokens unit program → (f : TextFault) (line : ℕ) → IsAtFault text f line → ⊥
+    sound : (program : Program) → IsForm unit program → (f : TextFault) (line : ℕ) → IsAtFault text f line → ⊥
     sound program is f line (unreadable u) = r.readable f line u
     sound program is f line (syntax {tokens = others} reads stands none) = none unit (subst (λ ts. Derives text ts unit) (sym (r.only others reads)) derived)
     sound program is f line (at_fault.not_yet {tokens = others} {unit = other} reads derives outside) =
-        let e = law text tokens unit (Ok program.functions) (Err line) is (same_form others other (Err line) reads derives outside) in cc
+        let e = law unit (Ok program.functions) (Err line) is (same_form others other (Err line) reads derives outside) in cc
 
-    pub only_program : (program : Program) → IsForm text tokens unit program → IsOnlyProgram text program
+    pub only_program : (program : Program) → IsForm unit program → IsOnlyProgram text program
     only_program program is = record {
       is = record { tokens = tokens; read = r.reads; unit = unit; derived = derived; formed = is };
       only = λ other p.
-          (let e : Ok other.functions ≡ Ok program.functions = law text tokens unit (Ok other.functions) (Ok program.functions) (form_of other p) is in
+          (let e : Ok other.functions ≡ Ok program.functions = law unit (Ok other.functions) (Ok program.functions) (form_of other p) is in
           let same : other.functions ≡ program.functions = cc in
           ap (λ (l : List Function). record { functions = l }) same);
       sound = sound program is;

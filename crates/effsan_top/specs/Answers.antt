@@ -3,12 +3,12 @@ use Rattle.std.specs.Prelude.{◌≡◌, ℕ, ◌≤◌, List, length, Option, S
 use Rattle.c_tokens.specs.declared.token.Token.{Token}
 use Rattle.c_grammar.specs.declared.units.Unit.{Unit as Tree}
 use Rattle.c_grammar.specs.Units.{Derives}
-use Rattle.program_form.specs.Strings.{HaveStrings}
+use Rattle.token_texts.specs.Strings.{HaveStrings}
 use Rattle.plain_meaning.specs.declared.record.Record.{Record}
 use Rattle.plain_meaning.specs.declared.tree.Program.{Program}
 use Rattle.plain_meaning.specs.Names.{IsEntry, HasNone}
 use Rattle.plain_meaning.specs.Run.{Run}
-use Rattle.effsan_top.specs.Streams.{max_text}
+use Rattle.effs_io.specs.Streams.{max_text}
 use Rattle.effsan_top.specs.Words.{Words, entry_of}
 use Rattle.effsan_top.specs.Programs.{IsProgram, HasNoProgram}
 use Rattle.effsan_top.specs.declared.faults.TextFault.{TextFault}
@@ -71,7 +71,7 @@ pub record LacksName (name text : List ℕ) : Type 0 where
   pub missing : HasNone program name
 
 -- Why a text that was read whole gives no run.
-abbrev pub HasTextCause : List ℕ → List ℕ → line.Refusal → Type 0
+abbrev pub HasTextCause : List ℕ → List ℕ → line.Cause → Type 0
 HasTextCause name text (line.Faulty f l) = IsFaulty text f l
 HasTextCause name text (line.NotFound missing) = (missing ≡ name) × LacksName name text
 HasTextCause name text line.OutOfMemory = Unit {0}
@@ -82,7 +82,7 @@ abbrev pub OfRead : Option (List ℕ) → (List ℕ → Type 0) → Type 0
 OfRead left P = IfSome left (λ text. (length text ≤ max_text) × P text)
 
 -- Why a source gives no run. `read` says that the count of the source rose.
-abbrev pub HasReadCause : List ℕ → Option (List ℕ) → Type 0 → line.Refusal → Type 0
+abbrev pub HasReadCause : List ℕ → Option (List ℕ) → Type 0 → line.Cause → Type 0
 HasReadCause name left read line.ReadFault = read
 HasReadCause name left read line.TooLarge = IfSome left IsTooLarge
 HasReadCause name left read (line.Faulty f l) = OfRead left (λ text. IsFaulty text f l)
@@ -91,7 +91,7 @@ HasReadCause name left read line.OutOfMemory = Unit {0}
 HasReadCause name left read _ = ⊥
 
 -- Why words and a source give no run.
-abbrev pub HasNoRunFor : Words → Option (List ℕ) → Type 0 → line.Refusal → Type 0
+abbrev pub HasNoRunFor : Words → Option (List ℕ) → Type 0 → line.Cause → Type 0
 HasNoRunFor words left read line.Words = entry_of words ≡ None
 HasNoRunFor words left read refusal = (name : List ℕ) × (entry_of words ≡ Some name) × HasReadCause name left read refusal
 

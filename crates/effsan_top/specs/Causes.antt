@@ -7,11 +7,11 @@ use Rattle.plain_meaning.specs.declared.tree.Program.{Program}
 use Rattle.plain_meaning.specs.Names.{IsEntry, HasNone}
 use Rattle.plain_meaning.specs.Acts.{Ends}
 use Rattle.plain_meaning.specs.Run.{Run, worker}
-use Rattle.effsan_top.specs.Streams.{max_text}
+use Rattle.effs_io.specs.Streams.{max_text}
 use Rattle.effsan_top.specs.Words.{Words, entry_of}
 use Rattle.effsan_top.specs.Programs.{IsProgram}
 use Rattle.effsan_top.specs.Statuses.{IsAnswered, IsOrFault, run_status}
-use Rattle.effsan_top.specs.Lines.{Refusal, Words as Unbuilt, ReadFault, TooLarge, Faulty, NotFound, OutOfMemory, WriteFault}
+use Rattle.effsan_top.specs.Lines.{Cause, Words as Unbuilt, ReadFault, TooLarge, Faulty, NotFound, OutOfMemory, WriteFault}
 use Rattle.effsan_top.specs.declared.faults.TextFault.{TextFault}
 use Rattle.effsan_top.specs.Faults.{IsAtFault}
 
@@ -48,8 +48,8 @@ pub record LacksEntry (name text : List ℕ) : Type 0 where
   pub read : IsProgram text program
   pub missing : HasNone program name
 
-abbrev pub IsRefused : List ℕ → List ℕ → Type 0
-IsRefused name text = HasFault text ⊎ LacksEntry name text
+abbrev pub IsWithoutRun : List ℕ → List ℕ → Type 0
+IsWithoutRun name text = HasFault text ⊎ LacksEntry name text
 
 -- The entry asks the heap for nothing, and ends so.
 pub record EndsAlone (name text : List ℕ) (ending : Ending) : Type 0 where
@@ -82,7 +82,7 @@ OfText words left P = (name text : List ℕ) → entry_of words ≡ Some name �
 -- ---- why there is no answer, or only a part of it
 
 -- `read` and `written` say that the count of the source, or of the output, rose
-abbrev pub HasCause : Words → Option (List ℕ) → Type 0 → Type 0 → Refusal → Type 0
+abbrev pub HasCause : Words → Option (List ℕ) → Type 0 → Type 0 → Cause → Type 0
 HasCause words left read written Unbuilt = entry_of words ≡ None
 HasCause words left read written ReadFault = read
 HasCause words left read written TooLarge = IfSome left IsTooLarge
@@ -91,7 +91,7 @@ HasCause words left read written (NotFound name) = (entry_of words ≡ Some name
 HasCause words left read written OutOfMemory = Unit {0}
 HasCause words left read written WriteFault = written
 
--- ---- what is left behind
+-- ---- what is left
 
 -- a record of no run
 pub record IsEmpty (run : Record) : Type 0 where

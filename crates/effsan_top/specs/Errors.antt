@@ -10,8 +10,8 @@ use Rattle.effsan_top.specs.declared.program.ProgramError.{ProgramError}
 use Rattle.effsan_top.specs.declared.program.ProgramError.TheVariants.{Memory, Faulty}
 use Rattle.effsan_top.specs.declared.faults.TextFault.TheVariants as fault
 use Rattle.effsan_top.specs.Faults.{line_at}
-use Rattle.effsan_top.specs.declared.transfer.ReadError.{ReadError}
-use Rattle.effsan_top.specs.declared.transfer.ReadError.TheVariants as read
+use Rattle.effs_io.specs.declared.transfer.ReadError.{ReadError}
+use Rattle.effs_io.specs.declared.transfer.ReadError.TheVariants as read
 use Rattle.effsan_top.specs.declared.refusal.Refusal.{Refusal}
 use Rattle.effsan_top.specs.declared.refusal.Refusal.TheVariants as refusal
 

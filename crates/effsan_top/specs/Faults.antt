@@ -2,10 +2,9 @@
 use Rattle.std.specs.Prelude.{ℕ, ◌+◌, ◌==◌, Bool, List, length, filter, take, codes, Contains}
 use Rattle.c_tokens.specs.declared.token.Token.{Token}
 use Rattle.c_lexer.specs.declared.error.LexError.TheVariants as lex
-use Rattle.c_lexer.specs.Lexes.{Tokens, IsRefused}
+use Rattle.c_lexer.specs.Lexes.{Tokens, IsLexFault}
 use Rattle.c_pp.specs.declared.error.PpError.TheVariants as pp
-use Rattle.c_pp.specs.Expands.{Expands}
-use Rattle.c_pp.specs.Expands.{IsRefused as IsStopped}
+use Rattle.c_pp.specs.Expands.{Expands, IsPpFault}
 use Rattle.c_grammar.specs.declared.units.Unit.{Unit as Tree}
 use Rattle.c_grammar.specs.Units.{Derives}
 use Rattle.program_form.specs.Programs.{IsOutside}
@@ -35,19 +34,19 @@ line_at text place = 1 + length (filter is_line_end (take place text))
 -- The text cannot be read: this is the first fault in it, and it stands on this line. A fault that leaves the text without
 -- tokens comes before those of directives and macros.
 pub data IsUnreadable (text : List ℕ) : TextFault → ℕ → Type 0 where
-  bad_byte : {place : ℕ} → IsRefused text (lex.BadByte place) → IsUnreadable text fault.BadByte (line_at text place)
-  open_comment : {place : ℕ} → IsRefused text (lex.OpenComment place) → IsUnreadable text fault.OpenComment (line_at text place)
-  open_string : {place : ℕ} → IsRefused text (lex.OpenString place) → IsUnreadable text fault.OpenString (line_at text place)
-  number_too_large : {place : ℕ} → IsRefused text (lex.NumberTooLarge place) → IsUnreadable text fault.NumberTooLarge (line_at text place)
-  bad_escape : {place : ℕ} → IsRefused text (lex.BadEscape place) → IsUnreadable text fault.BadEscape (line_at text place)
-  too_many_tokens : {place : ℕ} → IsRefused text (lex.TooManyTokens place) → IsUnreadable text fault.TooManyTokens (line_at text place)
-  unknown_header : {tokens : List Token} {line : ℕ} → Tokens text tokens → IsStopped text tokens (pp.UnknownHeader line) →
+  bad_byte : {place : ℕ} → IsLexFault text (lex.BadByte place) → IsUnreadable text fault.BadByte (line_at text place)
+  open_comment : {place : ℕ} → IsLexFault text (lex.OpenComment place) → IsUnreadable text fault.OpenComment (line_at text place)
+  open_string : {place : ℕ} → IsLexFault text (lex.OpenString place) → IsUnreadable text fault.OpenString (line_at text place)
+  number_too_large : {place : ℕ} → IsLexFault text (lex.NumberTooLarge place) → IsUnreadable text fault.NumberTooLarge (line_at text place)
+  bad_escape : {place : ℕ} → IsLexFault text (lex.BadEscape place) → IsUnreadable text fault.BadEscape (line_at text place)
+  too_many_tokens : {place : ℕ} → IsLexFault text (lex.TooManyTokens place) → IsUnreadable text fault.TooManyTokens (line_at text place)
+  unknown_header : {tokens : List Token} {line : ℕ} → Tokens text tokens → IsPpFault text tokens (pp.UnknownHeader line) →
       IsUnreadable text fault.UnknownHeader line
-  bad_directive : {tokens : List Token} {line : ℕ} → Tokens text tokens → IsStopped text tokens (pp.BadDirective line) →
+  bad_directive : {tokens : List Token} {line : ℕ} → Tokens text tokens → IsPpFault text tokens (pp.BadDirective line) →
       IsUnreadable text fault.BadDirective line
-  macro_loop : {tokens : List Token} {line : ℕ} → Tokens text tokens → IsStopped text tokens (pp.MacroLoop line) →
+  macro_loop : {tokens : List Token} {line : ℕ} → Tokens text tokens → IsPpFault text tokens (pp.MacroLoop line) →
       IsUnreadable text fault.MacroLoop line
-  too_many_after : {tokens : List Token} {line : ℕ} → Tokens text tokens → IsStopped text tokens (pp.TooManyTokens line) →
+  too_many_after : {tokens : List Token} {line : ℕ} → Tokens text tokens → IsPpFault text tokens (pp.TooManyTokens line) →
       IsUnreadable text fault.TooManyTokens line
 
 -- The text is cut into tokens, and these stand in place of them when its directives are obeyed and its macros replaced.
@@ -65,4 +64,4 @@ pub data IsAtFault (text : List ℕ) : TextFault → ℕ → Type 0 where
       ((unit : Tree) → Derives text tokens unit → ⊥) → IsAtFault text fault.Syntax token.line
   -- its unit is outside the form that runs; on the line begins the first declaration or function that is
   not_yet : {tokens : List Token} {unit : Tree} {line : ℕ} → Reads text tokens → Derives text tokens unit →
-      IsOutside text tokens unit line → IsAtFault text fault.NotYet line
+      IsOutside unit line → IsAtFault text fault.NotYet line

@@ -1,4 +1,3 @@
-pub mod Streams
 pub mod Words
 pub mod Faults
 pub mod Programs

@@ -21,19 +21,19 @@ printed run = joined run.texts ++ ending_lines run basic_types
 -- ---- on the error output
 
 -- why there is no answer, or only a part of it
-pub data Refusal : Type 0 where
+pub data Cause : Type 0 where
   -- the words are none that are built
-  Words : Refusal
-  ReadFault : Refusal
-  TooLarge : Refusal
+  Words : Cause
+  ReadFault : Cause
+  TooLarge : Cause
   -- the text has no program, for this fault on this line
-  Faulty : TextFault → ℕ → Refusal
+  Faulty : TextFault → ℕ → Cause
   -- no function has this name
-  NotFound : List ℕ → Refusal
-  OutOfMemory : Refusal
-  WriteFault : Refusal
+  NotFound : List ℕ → Cause
+  OutOfMemory : Cause
+  WriteFault : Cause
 
-abbrev pub status_of : Refusal → ℕ
+abbrev pub status_of : Cause → ℕ
 status_of Words = 2
 status_of ReadFault = 4
 status_of TooLarge = 7
@@ -45,7 +45,7 @@ status_of WriteFault = 5
 abbrev pub fault_line : TextFault → ℕ → List ℕ
 fault_line f line = codes "effsan: line " ++ decimal line ++ (codes ": " ++ fault_name f) ++ codes "\n"
 
-abbrev pub line_of : Refusal → List ℕ
+abbrev pub line_of : Cause → List ℕ
 line_of Words = codes "effsan: words: NotYet\n"
 line_of ReadFault = codes "effsan: read fault\n"
 line_of TooLarge = codes "effsan: source too large\n"

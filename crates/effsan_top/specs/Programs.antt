@@ -14,7 +14,7 @@ pub record IsProgram (text : List ℕ) (program : Program) : Type 0 where
   pub read : Reads text tokens
   pub unit : Unit
   pub derived : Derives text tokens unit
-  pub formed : IsForm text tokens unit program
+  pub formed : IsForm unit program
 
 -- the text has no program
 abbrev pub HasNoProgram : List ℕ → Type 0

@@ -3,11 +3,11 @@ use Rattle.effsan_top.specs.declared.refusal.Refusal.{Refusal}
 use Rattle.effsan_top.specs.declared.refusal.Refusal.TheVariants as r
 use Rattle.effsan_top.specs.Lines as line
 
-abbrev pub seen : Refusal → line.Refusal
-seen r.Words = line.Words
-seen r.ReadFault = line.ReadFault
-seen r.TooLarge = line.TooLarge
-seen (r.Faulty f l) = line.Faulty f l
-seen (r.NotFound name) = line.NotFound name.now
-seen r.OutOfMemory = line.OutOfMemory
-seen r.WriteFault = line.WriteFault
+abbrev pub cause_of : Refusal → line.Cause
+cause_of r.Words = line.Words
+cause_of r.ReadFault = line.ReadFault
+cause_of r.TooLarge = line.TooLarge
+cause_of (r.Faulty f l) = line.Faulty f l
+cause_of (r.NotFound name) = line.NotFound name.now
+cause_of r.OutOfMemory = line.OutOfMemory
+cause_of r.WriteFault = line.WriteFault

@@ -54,14 +54,14 @@ is_run status = is_answer status || (status == 5)
 abbrev pub is_status : ℕ → Bool
 is_status status = is_run status || ((status == 2) || ((status == 3) || ((status == 4) || ((status == 6) || (status == 7)))))
 
--- The status comes exactly where the cause holds, but that a read fault or want of memory may come in its place.
+-- The status comes exactly where the cause holds, but that a read fault or out of memory may come in its place.
 abbrev pub Exactly : ℕ → ℕ → Type 0 → Type 0
 Exactly expected status cause = (status ≡ expected → cause) × (cause → (status ≡ expected) ⊎ ((status ≡ 4) ⊎ (status ≡ 6)))
 
--- The status is the one that is expected, but that a write fault, a read fault or want of memory may come in its place.
+-- The status is the one that is expected, but that a write fault, a read fault or out of memory may come in its place.
 abbrev pub IsOrFault : ℕ → ℕ → Type 0
 IsOrFault expected status = (status ≡ expected) ⊎ ((status ≡ 5) ⊎ ((status ≡ 4) ⊎ (status ≡ 6)))
 
--- the status of a run, but for faults and want of memory
+-- the status of a run, but for faults and the end of memory
 abbrev pub IsAnswered : ℕ → Type 0
 IsAnswered status = (is_answer status ≡ true) ⊎ ((status ≡ 5) ⊎ ((status ≡ 4) ⊎ (status ≡ 6)))

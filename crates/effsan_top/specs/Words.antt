@@ -2,7 +2,7 @@
 use Rattle.std.specs.Prelude.{ℕ, List, [], ◌∷◌, ◌&&◌, Option, Some, None, if◌then◌else◌, codes}
 use Rattle.std.specs.Str.{bytes_eq}
 
--- the words behind the program's name, each as its bytes
+-- the words after the program's name, each as its bytes
 abbrev pub Words : Type 0
 Words = List (List ℕ)
 

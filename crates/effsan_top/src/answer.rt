@@ -3,18 +3,17 @@
 ghost use Rattle.std.specs.Prelude.{◌≡◌, ◌≤◌, length, map, IfOk, IfErr, string_bytes};
 ghost use Rattle.std.specs.List.{list_any};
 ghost use Rattle.effsan_top.specs.Histories.{IsHistory};
-ghost use Rattle.effsan_top.specs.Streams.{Rose};
+ghost use Rattle.effs_io.specs.Streams.{Rose};
 ghost use Rattle.effsan_top.specs.Lines as spec;
 ghost use Rattle.effsan_top.specs.Statuses.{is_reported, is_spent, run_status};
 ghost use Rattle.effsan_top.specs.Answers.{RunsText, RunsFor, HasTextCause, HasNoRunFor};
-ghost use Rattle.effsan_top.specs.Refusals.{seen};
+ghost use Rattle.effsan_top.specs.Refusals.{cause_of};
 
 use crate::lines::printed;
 use crate::program::text_program;
 use crate::refusal::Refusal;
-use crate::source::Source;
-use crate::transfer::read_all;
 use crate::words::entry;
+use effs_io::{Source, read_all};
 use plain_meaning::{Ending, Record, Setting, Text, find_entry, law_wants};
 use std::alloc::Global;
 use tree_walk::run;
@@ -35,7 +34,7 @@ fn answer_text<'a>(alloc: Global, name: &'a [u8], text: &[u8]) -> Result<Answer,
     ensures run { IfOk result (λ answer. RunsText name.now text.now answer.run) }
     ensures history { IfOk result (λ answer. IsHistory answer.run.history.entries) }
     ensures text { IfOk result (λ answer. answer.text ≡ spec.printed answer.run) }
-    ensures refused { IfErr result (λ refusal. HasTextCause name.now text.now (seen refusal)) }
+    ensures refused { IfErr result (λ refusal. HasTextCause name.now text.now (cause_of refusal)) }
 {
     let program = text_program(alloc, text)?;
     let Ok(entry) = find_entry(&program, name) else {
@@ -60,7 +59,7 @@ pub fn answer_words<'a, S: Source>(
     ensures run { IfOk result (λ answer. RunsFor (map string_bytes words.now) (S.left src.old) answer.run) }
     ensures history { IfOk result (λ answer. IsHistory answer.run.history.entries) }
     ensures text { IfOk result (λ answer. answer.text ≡ spec.printed answer.run) }
-    ensures refused { IfErr result (λ refusal. HasNoRunFor (map string_bytes words.now) (S.left src.old) (Rose (S.faults src.old) (S.faults src.new)) (seen refusal)) }
+    ensures refused { IfErr result (λ refusal. HasNoRunFor (map string_bytes words.now) (S.left src.old) (Rose (S.faults src.old) (S.faults src.new)) (cause_of refusal)) }
 {
     let Some(name) = entry(words) else {
         return Err(Refusal::Words);

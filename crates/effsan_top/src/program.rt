@@ -5,6 +5,7 @@ ghost use Rattle.effsan_top.specs.Errors.{of_lexer};
 ghost use Rattle.c_tokens.specs.declared.token.Token.{Token as Piece};
 ghost use Rattle.c_grammar.specs.declared.units.Unit.{Unit as Tree};
 ghost use Rattle.c_grammar.specs.Units.{Derives};
+ghost use Rattle.token_texts.specs.Strings.{HaveStrings};
 ghost use Rattle.effsan_top.specs.Answers.{IsReading, IsOnlyProgram, HasUnitCause, HasProgramCause};
 
 use crate::faults::{TextFault, line_at};
@@ -17,7 +18,7 @@ use plain_meaning::Program;
 use program_form::{FormError, law_form, program_of};
 use std::alloc::{AllocError, Global};
 
-/// Why a text has no program: want of memory, or the first fault in it, with its line.
+/// Why a text has no program: memory ran out, or the first fault in it, with its line.
 #[derive(Debug, Drop)]
 pub enum ProgramError {
     Memory,
@@ -122,7 +123,9 @@ fn line_of(tokens: &[Token], at: u32) -> usize
 
 /// The unit that the tokens derive.
 fn unit_of(alloc: Global, text: &[u8], tokens: &[Token]) -> Result<Unit, ProgramError>
-    requires { length tokens.now ≤ 200000 }
+    requires small { length text.now ≤ 1048576 }
+    requires few { length tokens.now ≤ 200000 }
+    requires strings { HaveStrings text.now tokens.now }
     ensures found { IfOk result (λ unit. Derives text.now tokens.now unit) }
     ensures only { (unit : Tree) → Derives text.now tokens.now unit → IfOk result (λ answer. answer ≡ unit) }
     ensures refused { IfErr result (λ error. HasUnitCause text.now tokens.now error) }
@@ -148,5 +151,5 @@ pub fn text_program(alloc: Global, text: &[u8]) -> Result<Program, ProgramError>
     let unit = unit_of(alloc, text, tokens.as_slice())?;
     law_derivation();
     law_form();
-    Ok(program_of(alloc, text, tokens.as_slice(), &unit)?)
+    Ok(program_of(alloc, &unit)?)
 }

@@ -2,16 +2,14 @@
 
 ghost use Rattle.std.specs.Prelude.{◌≡◌, ◌≤◌, ◌++◌, codes, OnOk, OnErr};
 ghost use Rattle.effsan_top.specs.declared.refusal.Refusal.TheVariants.{OutOfMemory};
-ghost use Rattle.effsan_top.specs.Streams.{Rose, Appends, AppendsSome};
+ghost use Rattle.effs_io.specs.Streams.{Rose, Appends, AppendsSome};
 ghost use Rattle.std.specs.Fmt.{decimal};
 ghost use Rattle.effsan_top.specs.Faults.{fault_name};
 ghost use Rattle.effsan_top.specs.Lines.{status_of, line_of, fault_line};
 
 use crate::faults::TextFault;
 use crate::program::ProgramError;
-use crate::sink::Sink;
-use crate::source::Failed;
-use crate::transfer::{ReadError, write_all};
+use effs_io::{Failed, ReadError, Sink, write_all};
 use itoa::Buffer;
 use std::alloc::AllocError;
 
@@ -63,11 +61,11 @@ impl From<ReadError> for Refusal<'_> {
 }
 
 impl Refusal<'_> {
-    ghost use Rattle.effsan_top.specs.Refusals.{seen};
+    ghost use Rattle.effsan_top.specs.Refusals.{cause_of};
 
     /// The exit status.
     pub fn status(self) -> u8
-        ensures { result ≡ status_of (seen self.entry) }
+        ensures { result ≡ status_of (cause_of self.entry) }
     {
         match self {
             Refusal::Words => 2,
@@ -81,8 +79,8 @@ impl Refusal<'_> {
 
     /// Writes the line that says why, without taking memory.
     pub fn write<E: Sink>(self, err: &mut E) -> Result<(), Failed>
-        ensures ok { OnOk result (Appends (line_of (seen self.entry)) (E.taken err.old) (E.taken err.new)) }
-        ensures failed { OnErr result (AppendsSome (line_of (seen self.entry)) (E.taken err.old) (E.taken err.new)) }
+        ensures ok { OnOk result (Appends (line_of (cause_of self.entry)) (E.taken err.old) (E.taken err.new)) }
+        ensures failed { OnErr result (AppendsSome (line_of (cause_of self.entry)) (E.taken err.old) (E.taken err.new)) }
         ensures cause { OnErr result (Rose (E.faults err.old) (E.faults err.new)) }
     {
         match self {

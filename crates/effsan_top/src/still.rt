@@ -1,20 +1,18 @@
 //! The top call on one thread.
 
 ghost use Rattle.std.specs.Prelude.{◌≡◌, ◌↔◌, ◌⊎◌, ◌&&◌, true, false, not, None, map, IsTrue, string_bytes};
-ghost use Rattle.effsan_top.specs.Streams.{Rose, Appends, AppendsSome, Writes};
+ghost use Rattle.effs_io.specs.Streams.{Rose, Appends, AppendsSome, Writes};
 ghost use Rattle.effsan_top.specs.Words.{entry_of};
 ghost use Rattle.effsan_top.specs.Lines as spec;
-ghost use Rattle.effsan_top.specs.Lines.{Refusal as Cause, status_of, line_of};
+ghost use Rattle.effsan_top.specs.Lines.{Cause, status_of, line_of};
 ghost use Rattle.effsan_top.specs.Statuses.{Exactly, all_finished, some_reported, some_spent, is_answer, is_run, is_status, run_status};
 ghost use Rattle.effsan_top.specs.Histories.{FindsPreferred, AccessesInside, IsHistory};
-ghost use Rattle.effsan_top.specs.Causes.{OfText, IsTooLarge, IsRefused, HasRun, HasCause, IsEmpty, AnswersAccepted, AnswersAlone};
-ghost use Rattle.effsan_top.specs.Refusals.{seen};
+ghost use Rattle.effsan_top.specs.Causes.{OfText, IsTooLarge, IsWithoutRun, HasRun, HasCause, IsEmpty, AnswersAccepted, AnswersAlone};
+ghost use Rattle.effsan_top.specs.Refusals.{cause_of};
 
 use crate::answer::{Answer, answer_words, status};
 use crate::refusal::Refusal;
-use crate::sink::Sink;
-use crate::source::Source;
-use crate::transfer::write_all;
+use effs_io::{Sink, Source, write_all};
 use heap_model::{History, law_accesses_inside, law_found_preferred};
 use plain_meaning::{Record, law_prefix};
 use sqlite_items::Items;
@@ -28,9 +26,9 @@ pub struct Finished {
 }
 
 fn refused<E: Sink>(alloc: Global, refusal: Refusal<'_>, err: &mut E) -> Finished
-    ensures status { result.status ≡ status_of (seen refusal.entry) }
+    ensures status { result.status ≡ status_of (cause_of refusal.entry) }
     ensures run { IsEmpty result.run }
-    ensures err { Writes (line_of (seen refusal.entry)) (E.taken err.old) (E.taken err.new) (Rose (E.faults err.old) (E.faults err.new)) }
+    ensures err { Writes (line_of (cause_of refusal.entry)) (E.taken err.old) (E.taken err.new) (Rose (E.faults err.old) (E.faults err.new)) }
 {
     let _ = refusal.write(err);
     let run = Record {
@@ -87,8 +85,8 @@ pub fn effsan_still<S: Source, O: Sink, E: Sink>(
     ensures write_fault { result.status ≡ 5 → Rose (O.faults out.old) (O.faults out.new) }
     // Each other status has its cause, and comes where that holds.
     ensures too_large { OfText (map string_bytes words.now) (S.left src.old) (λ name text. Exactly 7 result.status (IsTooLarge text)) }
-    ensures refused { OfText (map string_bytes words.now) (S.left src.old) (λ name text. Exactly 3 result.status (IsRefused name text)) }
-    // An accepted text has an answer, but for faults and want of memory.
+    ensures refused { OfText (map string_bytes words.now) (S.left src.old) (λ name text. Exactly 3 result.status (IsWithoutRun name text)) }
+    // An accepted text has an answer, but for faults and the end of memory.
     ensures accepted { OfText (map string_bytes words.now) (S.left src.old) (λ name text. AnswersAccepted result.status name text) }
     // Where the function asks the heap for nothing, its ending is fixed by the text, and so is the status.
     ensures alone { OfText (map string_bytes words.now) (S.left src.old) (λ name text. AnswersAlone result.status name text) }

@@ -1,6 +1,6 @@
 use Rattle.std.proofs.Common.{◌≡◌, ◌≤◌, List, ℕ, length, subst, sym, arith}
 use Rattle.std.specs.Prelude.{IfSome, map, string_bytes}
-use Rattle.effsan_top.specs.Streams.{Rose}
+use Rattle.effs_io.specs.Streams.{Rose}
 use Rattle.std.proofs.lemmas.Result.{IfErr-weaker, IfOk-weaker}
 use Rattle.effsan_top.proofs.Outcomes.{text_cause, text_run}
 use Rattle.effsan_top.proofs.answer.answer_words.Goals as goal

@@ -1,7 +1,6 @@
-use Rattle.std.proofs.Common.{sym, subst, ◌∙◌, Err, rules}
+use Rattle.std.proofs.Common.{sym, subst, Err, rules}
 use Rattle.std.specs.Prelude.{IsErrOf}
 use Rattle.std.proofs.lemmas.Result.{err_from_is_err_and}
-use Rattle.c_grammar.specs.Units.{Derives}
 use Rattle.plain_meaning.specs.declared.tree.Program.{Program}
 use Rattle.program_form.specs.declared.error.FormError.{FormError}
 use Rattle.program_form.specs.declared.error.FormError.TheVariants.{NotYet}
@@ -19,10 +18,10 @@ pub returns-in_err-program_of-clause-refused : goal.returns-in_err-program_of-cl
 returns-in_err-program_of-clause-refused c =
     let p = err_from_is_err_and c.from_residual-in_err-program_of.result c.from_residual-in_err-program_of.ensures.1 in
     let text = c.args.text.now in
-    let tokens = c.as_slice-2.result.now in
+    let tokens = c.as_slice.result.now in
     let unit = c.in_ok-unit.unit in
-    let reads = subst (λ ts. IsReading text ts) (sym c.as_slice-2.ensures.value) c.in_ok-tokens.ensures.found in
-    let derived = subst (λ ts. Derives text ts unit) (c.as_slice.ensures.value ∙ sym c.as_slice-2.ensures.value) c.in_ok-unit.ensures.found in
+    let reads = subst (λ ts. IsReading text ts) (sym c.as_slice.ensures.value) c.in_ok-tokens.ensures.found in
+    let derived = c.in_ok-unit.ensures.found in
     rw (p.1, p.2)
     (form_cause text tokens reads unit derived (λ other d. c.law_derivation.ensures.unit text tokens other unit d derived) c.law_form.ensures
     c.in_err-program_of.field-0.0 (λ line same.
@@ -32,9 +31,9 @@ returns-in_err-program_of-clause-refused c =
 pub returns-clause-found : goal.returns-clause-found
 returns-clause-found c =
     let text = c.args.text.now in
-    let tokens = c.as_slice-2.result.now in
+    let tokens = c.as_slice.result.now in
     let unit = c.in_ok-unit.unit in
-    let reads = subst (λ ts. IsReading text ts) (sym c.as_slice-2.ensures.value) c.in_ok-tokens.ensures.found in
-    let derived = subst (λ ts. Derives text ts unit) (c.as_slice.ensures.value ∙ sym c.as_slice-2.ensures.value) c.in_ok-unit.ensures.found in
+    let reads = subst (λ ts. IsReading text ts) (sym c.as_slice.ensures.value) c.in_ok-tokens.ensures.found in
+    let derived = c.in_ok-unit.ensures.found in
     only_program text tokens reads unit derived (λ other d. c.law_derivation.ensures.unit text tokens other unit d derived) c.law_form.ensures
     c.in_ok-program_of.field-0 c.in_ok-program_of.ensures.found

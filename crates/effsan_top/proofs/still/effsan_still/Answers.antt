@@ -1,8 +1,8 @@
 use Rattle.std.proofs.Common.{[], sym, refl}
 use Rattle.std.specs.Prelude.{map, string_bytes}
-use Rattle.effsan_top.specs.Streams.{Rose}
+use Rattle.effs_io.specs.Streams.{Rose}
 use Rattle.effsan_top.specs.Lines.{WriteFault}
-use Rattle.effsan_top.specs.Refusals.{seen}
+use Rattle.effsan_top.specs.Refusals.{cause_of}
 use Rattle.effsan_top.proofs.Endings.{finds, inside, tells, no_history}
 use Rattle.effsan_top.proofs.Outcomes.{of_run, of_refusal, is_a_run, has_cause}
 use Rattle.effsan_top.proofs.still.effsan_still.Goals as goal
@@ -73,15 +73,15 @@ returns-in-Ok-clause-err g c other =
 
 pub returns-in-Err-clause-refused : goal.returns-in-Err-clause-refused
 returns-in-Err-clause-refused g c name text asked told =
-    rw c.refused.ensures.status (of_refusal (map string_bytes c.args.words.now) (g.S.Source.left c.args.src.now) (Rose (g.S.Source.faults c.args.src.now) (g.S.Source.faults c.answer_words.new.src)) (seen c.in-Err.refusal) c.in-Err.ensures.refused name text asked told).refused
+    rw c.refused.ensures.status (of_refusal (map string_bytes c.args.words.now) (g.S.Source.left c.args.src.now) (Rose (g.S.Source.faults c.args.src.now) (g.S.Source.faults c.answer_words.new.src)) (cause_of c.in-Err.refusal) c.in-Err.ensures.refused name text asked told).refused
 
 pub returns-in-Err-clause-accepted : goal.returns-in-Err-clause-accepted
 returns-in-Err-clause-accepted g c name text asked told =
-    rw c.refused.ensures.status (of_refusal (map string_bytes c.args.words.now) (g.S.Source.left c.args.src.now) (Rose (g.S.Source.faults c.args.src.now) (g.S.Source.faults c.answer_words.new.src)) (seen c.in-Err.refusal) c.in-Err.ensures.refused name text asked told).accepted
+    rw c.refused.ensures.status (of_refusal (map string_bytes c.args.words.now) (g.S.Source.left c.args.src.now) (Rose (g.S.Source.faults c.args.src.now) (g.S.Source.faults c.answer_words.new.src)) (cause_of c.in-Err.refusal) c.in-Err.ensures.refused name text asked told).accepted
 
 pub returns-in-Err-clause-alone : goal.returns-in-Err-clause-alone
 returns-in-Err-clause-alone g c name text asked told =
-    rw c.refused.ensures.status (of_refusal (map string_bytes c.args.words.now) (g.S.Source.left c.args.src.now) (Rose (g.S.Source.faults c.args.src.now) (g.S.Source.faults c.answer_words.new.src)) (seen c.in-Err.refusal) c.in-Err.ensures.refused name text asked told).alone
+    rw c.refused.ensures.status (of_refusal (map string_bytes c.args.words.now) (g.S.Source.left c.args.src.now) (Rose (g.S.Source.faults c.args.src.now) (g.S.Source.faults c.answer_words.new.src)) (cause_of c.in-Err.refusal) c.in-Err.ensures.refused name text asked told).alone
 
 pub returns-in-Err-clause-history : goal.returns-in-Err-clause-history
 returns-in-Err-clause-history g c = rw c.refused.ensures.run.history no_history
@@ -94,4 +94,4 @@ returns-in-Err-clause-accesses_inside g c = rw c.refused.ensures.run.history (in
 
 pub returns-in-Err-clause-err : goal.returns-in-Err-clause-err
 returns-in-Err-clause-err g c _ =
-    (seen c.in-Err.refusal, sym c.refused.ensures.status, has_cause (map string_bytes c.args.words.now) (g.S.Source.left c.args.src.now) (Rose (g.S.Source.faults c.args.src.now) (g.S.Source.faults c.answer_words.new.src)) (Rose (g.O.Sink.faults c.args.out.now) (g.O.Sink.faults c.args.out.now)) (seen c.in-Err.refusal) c.in-Err.ensures.refused, c.refused.ensures.err)
+    (cause_of c.in-Err.refusal, sym c.refused.ensures.status, has_cause (map string_bytes c.args.words.now) (g.S.Source.left c.args.src.now) (Rose (g.S.Source.faults c.args.src.now) (g.S.Source.faults c.answer_words.new.src)) (Rose (g.O.Sink.faults c.args.out.now) (g.O.Sink.faults c.args.out.now)) (cause_of c.in-Err.refusal) c.in-Err.ensures.refused, c.refused.ensures.err)

@@ -1,0 +1,6 @@
+pub mod Numbers
+pub mod Schedules
+pub mod Options
+pub mod Lines
+pub mod Words
+pub mod Judged
