@@ -1,0 +1,1 @@
+void f(void) { int i = 0; while (i < 1000000) if (1) i = i + 1; }

@@ -1,0 +1,1 @@
+void f(void) { int i = 1; while (i <= 100000) { printf("%d\n", i); i = i + 1; } }

@@ -1,0 +1,1 @@
+void f(void) { int i = 0; while (i <= 999999) i = i + 1; }

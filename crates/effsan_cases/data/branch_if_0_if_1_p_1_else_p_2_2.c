@@ -1,0 +1,1 @@
+void f(void) { if (0) { if (1) printf("%d\n", 1); } else printf("%d\n", 2); }

@@ -1,0 +1,1 @@
+void f(void) { if (0) printf("%d\n", 1); else if (0) printf("%d\n", 2); else printf("%d\n", 3); }

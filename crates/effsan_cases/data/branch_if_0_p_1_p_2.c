@@ -1,0 +1,1 @@
+void f(void) { if (0) printf("%d\n", 1); printf("%d\n", 2); }

@@ -1,0 +1,1 @@
+void f(void) { if (1) while (0) { } else printf("%d\n", 2); }

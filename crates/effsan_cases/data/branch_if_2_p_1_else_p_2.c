@@ -1,0 +1,1 @@
+void f(void) { if (2) printf("%d\n", 1); else printf("%d\n", 2); }

@@ -1,0 +1,1 @@
+void f(void) { int i = 0; while (i < 5) { if (i == 2) printf("%d\n", 100 * i); else printf("%d\n", i); i = i + 1; } }

@@ -1,0 +1,1 @@
+void f(void) { int x = 0; if (x) { x = 6; } else { x = 7; } printf("%d\n", x); }

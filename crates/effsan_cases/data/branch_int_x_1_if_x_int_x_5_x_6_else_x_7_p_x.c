@@ -1,0 +1,1 @@
+void f(void) { int x = 1; if (x) { int x = 5; x = 6; } else { x = 7; } printf("%d\n", x); }

@@ -1,0 +1,1 @@
+void f(void) { char *c = malloc(037); printf("%d\n", c[0x1e]); }

@@ -1,0 +1,1 @@
+void f(void) { char *c = malloc(0x1F); c[036] = 0x41; printf("%d\n", c[30]); }

@@ -1,0 +1,1 @@
+void f(void) { int i = 0x8; while (07 < i) { printf("%d\n", i); i = i - 0x1; } }

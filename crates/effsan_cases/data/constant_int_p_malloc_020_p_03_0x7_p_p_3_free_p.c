@@ -1,0 +1,1 @@
+void f(void) { int *p = malloc(020); p[03] = 0x7; printf("%d\n", p[3]); free(p); }

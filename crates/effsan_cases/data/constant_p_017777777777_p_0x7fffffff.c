@@ -1,0 +1,1 @@
+void f(void) { printf("%d\n", 017777777777); printf("%d\n", 0x7fffffff); }

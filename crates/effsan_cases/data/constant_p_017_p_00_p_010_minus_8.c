@@ -1,0 +1,1 @@
+void f(void) { printf("%d\n", 017); printf("%d\n", 00); printf("%d\n", 010 - 8); }

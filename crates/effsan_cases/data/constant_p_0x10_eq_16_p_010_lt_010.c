@@ -1,0 +1,1 @@
+void f(void) { printf("%d\n", 0x10==16); printf("%d\n", 010<010); }

@@ -1,0 +1,1 @@
+void f(void) { printf("%d\n", 0x1F); printf("%d\n", 0X1f); printf("%d\n", 0xaBc); }

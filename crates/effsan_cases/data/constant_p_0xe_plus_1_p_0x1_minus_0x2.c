@@ -1,0 +1,1 @@
+void f(void) { printf("%d\n", 0xe+1); printf("%d\n", 0x1-0x2); }

@@ -1,0 +1,3 @@
+#define x 1
+void f(void) {
+ int x = 1; }

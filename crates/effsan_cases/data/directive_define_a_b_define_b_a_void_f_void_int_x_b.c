@@ -1,0 +1,4 @@
+#define A B
+#define B A
+
+void f(void) { int x = B; }

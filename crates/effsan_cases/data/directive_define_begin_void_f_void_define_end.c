@@ -1,0 +1,3 @@
+#define BEGIN void f(void) {
+#define END }
+#define SAY(x) x

@@ -1,0 +1,3 @@
+#define SIZE 4u
+void f(void) {
+ int *p = malloc(SIZE); }

@@ -1,0 +1,3 @@
+#define void int
+#undef int
+void f(void) { }

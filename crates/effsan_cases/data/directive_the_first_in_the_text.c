@@ -1,0 +1,4 @@
+A
+#define A A
+#line 3
+A

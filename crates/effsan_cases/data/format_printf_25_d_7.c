@@ -1,0 +1,1 @@
+void f(void) { printf("\x25" "d\n", 7); }

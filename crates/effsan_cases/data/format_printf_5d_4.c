@@ -1,0 +1,1 @@
+void f(void) { printf("\45d\n", 4); }

@@ -1,0 +1,1 @@
+void f(void) { printf("%\x64\n", 8); }

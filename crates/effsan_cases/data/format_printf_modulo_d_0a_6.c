@@ -1,0 +1,1 @@
+void f(void) { printf("%d\x0a", 6); }

@@ -1,0 +1,8 @@
+void f(void)
+{
+ int *q = (int *)q;
+ int
+ x
+ =
+ q[0];
+}

@@ -1,0 +1,7 @@
+#define USE q[0]
+void f(void) {
+ int *q = (int *)q;
+
+ USE
+ = 1;
+}

@@ -1,0 +1,6 @@
+void f(void) {
+ int *p = malloc(4); free(p
+);
+ /* */ free(p
+);
+}

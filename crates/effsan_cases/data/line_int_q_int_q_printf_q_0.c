@@ -1,0 +1,6 @@
+void f(void) {
+ int *q = (int *)q;
+ printf(
+"%d\n",
+q[0]);
+}

@@ -1,0 +1,4 @@
+#define EMPTY
+#
+void f(void) { EMPTY printf("%d\n", EMPTY 1 EMPTY); }
+#undef EMPTY

@@ -1,0 +1,3 @@
+#define TWICE(x) x x
+void f(void) {
+}

@@ -1,0 +1,3 @@
+void f(void) {
+    int *p = malloc(8); p[2] = 1;
+}

@@ -1,0 +1,3 @@
+#define LIMIT LIMIT + 1
+void f(void) {
+    int x = LIMIT; }

@@ -1,0 +1,3 @@
+void f(void) {
+    int *p = (int *)p;
+    p[0] = 1; }

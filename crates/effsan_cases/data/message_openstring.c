@@ -1,0 +1,3 @@
+void f(void) {
+    printf("%d\n, 1);
+}

@@ -1,0 +1,3 @@
+#include <maths.h>
+void f(void) {
+}

@@ -1,0 +1,2 @@
+void f(void) { int a\
+b = 2; printf("%d\n", ab); }

@@ -1,0 +1,1 @@
+void f(void) { int f = 5; int main = f; printf("%d\n", main); }

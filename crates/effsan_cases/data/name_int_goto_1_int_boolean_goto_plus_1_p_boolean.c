@@ -1,0 +1,1 @@
+void f(void) { int goto_ = 1; int _Boolean = goto_ + 1; printf("%d\n", _Boolean); }

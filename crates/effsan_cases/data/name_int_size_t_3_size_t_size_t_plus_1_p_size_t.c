@@ -1,0 +1,1 @@
+void f(void) { int size_t = 3; size_t = size_t + 1; printf("%d\n", size_t); }

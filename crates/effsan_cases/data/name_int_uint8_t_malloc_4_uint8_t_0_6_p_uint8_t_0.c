@@ -1,0 +1,1 @@
+void f(void) { int *uint8_t = malloc(4); uint8_t[0] = 6; printf("%d\n", uint8_t[0]); free(uint8_t); }

@@ -1,0 +1,3 @@
+void m(void) { }
+void ma\
+in(void) { printf("%d\n", 4); }

@@ -1,0 +1,2 @@
+#define start main
+void start(void) { printf("%d\n", 5); }

@@ -1,0 +1,1 @@
+void f() { } void _() { printf("%d\n", 3); }

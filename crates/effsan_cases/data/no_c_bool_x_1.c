@@ -1,0 +1,4 @@
+
+void f(void) {
+_Bool x = 1;
+}

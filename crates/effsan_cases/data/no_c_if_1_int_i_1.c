@@ -1,0 +1,4 @@
+
+void f(void) {
+if (1) int i = 1;
+}

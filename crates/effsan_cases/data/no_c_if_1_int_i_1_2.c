@@ -1,0 +1,5 @@
+
+void f(void) {
+if (1)
+int i = 1;
+}

@@ -1,0 +1,4 @@
+
+void f(void) {
+if (1) int *p = malloc(4);
+}

@@ -1,0 +1,4 @@
+
+void f(void) {
+int 1x = 1;
+}

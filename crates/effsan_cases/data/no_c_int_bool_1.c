@@ -1,0 +1,4 @@
+
+void f(void) {
+int _Bool = 1;
+}

@@ -1,0 +1,6 @@
+
+void f(void) {
+int i =
+1
+2;
+}

@@ -1,0 +1,7 @@
+
+void f(void) {
+int i = (
+1
+;
+)
+}

@@ -1,0 +1,4 @@
+
+void f(void) {
+int i = 1 + 1 = 2;
+}

@@ -1,0 +1,4 @@
+
+void f(void) {
+size_t = 1;
+}

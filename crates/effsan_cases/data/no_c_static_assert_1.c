@@ -1,0 +1,4 @@
+
+void f(void) {
+_Static_assert(1, "");
+}

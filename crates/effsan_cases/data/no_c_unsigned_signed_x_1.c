@@ -1,0 +1,4 @@
+
+void f(void) {
+unsigned signed x = 1;
+}

@@ -1,0 +1,4 @@
+
+void f(void) {
+volatile int x = 1;
+}

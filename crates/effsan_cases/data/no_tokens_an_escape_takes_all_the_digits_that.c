@@ -1,0 +1,2 @@
+void f(void) {
+ printf("\x25d\n", 1); }

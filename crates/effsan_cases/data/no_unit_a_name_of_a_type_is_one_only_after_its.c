@@ -1,0 +1,2 @@
+T x;
+typedef int T;

@@ -1,0 +1,3 @@
+#define EMPTY
+void f(void) {
+ EMPTY

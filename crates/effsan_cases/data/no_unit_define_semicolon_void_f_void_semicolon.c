@@ -1,0 +1,3 @@
+#define SEMICOLON ;
+void f(void) { }
+SEMICOLON

@@ -1,0 +1,4 @@
+#define TAIL int
+void f(void) { }
+
+TAIL

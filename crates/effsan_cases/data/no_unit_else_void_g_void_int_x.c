@@ -1,0 +1,2 @@
+void f(void) { else }
+void g(void) { int x = ; }

@@ -1,0 +1,4 @@
+struct S {
+ int a;
+}
+#undef A

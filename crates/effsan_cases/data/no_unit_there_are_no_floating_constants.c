@@ -1,0 +1,5 @@
+void f(void) {
+ int x
+ = 1
+.5
+; }

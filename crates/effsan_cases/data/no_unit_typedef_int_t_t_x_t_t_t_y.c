@@ -1,0 +1,4 @@
+typedef int T;
+T x;
+T T;
+T y;

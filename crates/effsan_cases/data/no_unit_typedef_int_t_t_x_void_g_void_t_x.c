@@ -1,0 +1,3 @@
+void f(void) { typedef int T; T x; }
+void g(void) {
+ T x; }

@@ -1,0 +1,2 @@
+void f(void)
+int x;

@@ -1,0 +1,5 @@
+void f(void) { }
+void g(void) {
+ int i = 1
+ int j = 2;
+}

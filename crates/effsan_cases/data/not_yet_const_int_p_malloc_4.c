@@ -1,0 +1,4 @@
+
+void f(void) {
+const int *p = malloc(4);
+}

@@ -1,0 +1,4 @@
+
+void f(void) {
+for (int i = 1; i < 2; i = i + 1) { }
+}

@@ -1,0 +1,4 @@
+
+void f(void) {
+int64_t x = 1;
+}

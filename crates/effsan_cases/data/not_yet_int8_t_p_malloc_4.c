@@ -1,0 +1,4 @@
+
+void f(void) {
+int8_t *p = malloc(4);
+}

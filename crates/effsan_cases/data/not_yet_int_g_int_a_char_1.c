@@ -1,0 +1,4 @@
+
+void f(void) {
+int (*g)(int a, char) = 1;
+}

@@ -1,0 +1,4 @@
+
+void f(void) {
+int p = 1; { int *p = malloc(4); p = 2; }
+}

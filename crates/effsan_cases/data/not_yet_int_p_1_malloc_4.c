@@ -1,0 +1,4 @@
+
+void f(void) {
+int *p[1] = malloc(4);
+}

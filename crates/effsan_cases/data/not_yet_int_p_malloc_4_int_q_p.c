@@ -1,0 +1,4 @@
+
+void f(void) {
+int *p = malloc(4); int *q = p;
+}

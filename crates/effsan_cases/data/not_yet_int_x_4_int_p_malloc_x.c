@@ -1,0 +1,4 @@
+
+void f(void) {
+int x = 4; int *p = malloc(x);
+}

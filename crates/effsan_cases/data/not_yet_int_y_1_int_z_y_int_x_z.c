@@ -1,0 +1,4 @@
+
+void f(void) {
+{ int y = 1; { int z = y; } int x = z; }
+}

@@ -1,0 +1,4 @@
+
+void f(void) {
+long x = 1;
+}

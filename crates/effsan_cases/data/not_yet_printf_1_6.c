@@ -1,0 +1,4 @@
+
+void f(void) {
+printf("%d\n" " ", 1);
+}

@@ -1,0 +1,4 @@
+
+void f(void) {
+puts("%d\n", 1);
+}

@@ -1,0 +1,4 @@
+
+void f(void) {
+register int x = 1;
+}

@@ -1,0 +1,4 @@
+
+void f(void) {
+short *p = malloc(4);
+}

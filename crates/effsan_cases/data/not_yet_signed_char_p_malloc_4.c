@@ -1,0 +1,4 @@
+
+void f(void) {
+signed char *p = malloc(4);
+}

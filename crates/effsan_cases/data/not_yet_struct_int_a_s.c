@@ -1,0 +1,4 @@
+
+void f(void) {
+struct { int a; } s;
+}

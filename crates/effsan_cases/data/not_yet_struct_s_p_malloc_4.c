@@ -1,0 +1,4 @@
+
+void f(void) {
+struct S *p = malloc(4);
+}

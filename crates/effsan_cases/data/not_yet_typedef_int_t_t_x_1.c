@@ -1,0 +1,4 @@
+
+void f(void) {
+typedef int T; T x = 1;
+}

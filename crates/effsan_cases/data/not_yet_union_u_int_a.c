@@ -1,0 +1,4 @@
+
+void f(void) {
+union U { int a; };
+}

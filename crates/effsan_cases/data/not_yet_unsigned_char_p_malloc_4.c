@@ -1,0 +1,4 @@
+
+void f(void) {
+unsigned char *p = malloc(4);
+}

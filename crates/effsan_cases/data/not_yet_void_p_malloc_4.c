@@ -1,0 +1,4 @@
+
+void f(void) {
+void *p = malloc(4);
+}

@@ -1,0 +1,4 @@
+
+void f(void) {
+while (0) { int x = 1; } x = 2;
+}

@@ -1,0 +1,1 @@
+inline void f(void) { }

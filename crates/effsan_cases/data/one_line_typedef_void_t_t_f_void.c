@@ -1,0 +1,1 @@
+typedef void T; T f(void) { }

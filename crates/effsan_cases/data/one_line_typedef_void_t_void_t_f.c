@@ -1,0 +1,1 @@
+typedef void T(void); T f;

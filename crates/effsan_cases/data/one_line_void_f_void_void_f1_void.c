@@ -1,0 +1,1 @@
+void F(void) { } void f1(void) { }

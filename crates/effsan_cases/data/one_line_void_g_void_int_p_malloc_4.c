@@ -1,0 +1,1 @@
+void g(void) { int *p = malloc(4); }

@@ -1,0 +1,1 @@
+void malloc(void) { } void f(void) { }

@@ -1,0 +1,3 @@
+void f(void) { } /* a
+ b */ int
+ x;

@@ -1,0 +1,4 @@
+#define HEAD int
+
+HEAD
+f(void) { }

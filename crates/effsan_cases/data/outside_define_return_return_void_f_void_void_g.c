@@ -1,0 +1,6 @@
+#define RETURN return;
+void f(void) { }
+void g(void)
+{
+ RETURN
+}

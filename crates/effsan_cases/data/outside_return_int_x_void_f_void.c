@@ -1,0 +1,5 @@
+void f(void) {
+
+ return; }
+int x;
+void f(void) { }

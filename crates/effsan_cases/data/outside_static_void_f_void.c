@@ -1,0 +1,7 @@
+
+
+static
+void
+f(void)
+{
+}

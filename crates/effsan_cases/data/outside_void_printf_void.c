@@ -1,0 +1,3 @@
+void f(void) { }
+void
+printf(void) { }

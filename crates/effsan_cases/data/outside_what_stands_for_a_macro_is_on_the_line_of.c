@@ -1,0 +1,3 @@
+#define DECLARE int x;
+
+DECLARE

@@ -1,0 +1,1 @@
+void f(void) { printf("%d\n", 1); printf("%d\n", 2); int *q = (int *)q; q[0] = 3; printf("%d\n", 4); }

@@ -1,0 +1,1 @@
+void f(void) { int i = 0; while (i <= 1) { int n = n + 1; printf("%d\n", n); i = i + 1; } }

@@ -1,0 +1,1 @@
+void f(void) { int x = 7; { int x = x + 1; printf("%d\n", x); } }

@@ -1,0 +1,1 @@
+void f(void) { char *c = malloc(0); printf("%d\n", c[0]); }

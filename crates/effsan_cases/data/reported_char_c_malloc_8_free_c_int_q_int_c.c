@@ -1,0 +1,1 @@
+void f(void) { char *c = malloc(8); free(c); int *q = (int *)c; }

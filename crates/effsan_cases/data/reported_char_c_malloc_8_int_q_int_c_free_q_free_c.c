@@ -1,0 +1,1 @@
+void f(void) { char *c = malloc(8); int *q = (int *)c; free(q); free(c); }

@@ -1,0 +1,1 @@
+void f(void) { int *p = malloc(3); int *q = (int *)p; q[0] = 1; }

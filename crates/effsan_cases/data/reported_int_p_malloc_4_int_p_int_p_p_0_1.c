@@ -1,0 +1,1 @@
+void f(void) { int *p = malloc(4); { int *p = (int *)p; p[0] = 1; } }

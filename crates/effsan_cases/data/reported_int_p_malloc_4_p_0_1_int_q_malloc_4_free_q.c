@@ -1,0 +1,1 @@
+void f(void) { int *p = malloc(4); p[0] = 1; int *q = malloc(4); free(q); free(q); }

@@ -1,0 +1,1 @@
+void f(void) { int *p = malloc(6); int *q = (int *)p; q[1] = 1; }

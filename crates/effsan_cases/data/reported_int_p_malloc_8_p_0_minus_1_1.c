@@ -1,0 +1,1 @@
+void f(void) { int *p = malloc(8); p[0 - 1] = 1; }

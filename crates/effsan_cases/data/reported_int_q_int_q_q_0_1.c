@@ -1,0 +1,1 @@
+void f(void) { int *q = (int *)q; q[0] = 1; }

@@ -1,0 +1,1 @@
+void f(void) { char *p = malloc(4); int *q = ( int * ) p; }

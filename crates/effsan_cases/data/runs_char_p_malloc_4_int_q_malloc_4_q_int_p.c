@@ -1,0 +1,1 @@
+void f(void) { char *p = malloc(4); int *q = malloc(4); q = (int *)p; }

@@ -1,0 +1,1 @@
+void f(void) { char *p = malloc(4); p[p[0]] = p[1 + 2] * (p[3]); }

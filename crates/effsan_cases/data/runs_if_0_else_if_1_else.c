@@ -1,0 +1,1 @@
+void f(void) { if (0) { } else if (1) { } else { } }

@@ -1,0 +1,1 @@
+void f(void) { if (0) { } else while (0) { int *p = malloc(4); } }

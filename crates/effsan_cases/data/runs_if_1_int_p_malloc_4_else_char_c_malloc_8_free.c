@@ -1,0 +1,1 @@
+void f(void) { if (1) { int *p = malloc(4); } else { char *c = malloc(8); free(c); } }

@@ -1,0 +1,3 @@
+void f(void) { in\
+t a = 1\
+2; }

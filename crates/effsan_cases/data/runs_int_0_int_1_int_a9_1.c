@@ -1,0 +1,1 @@
+void f(void) { int _ = 0; int __1 = _; int A9 = __1; }

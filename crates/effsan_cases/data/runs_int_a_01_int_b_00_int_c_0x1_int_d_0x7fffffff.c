@@ -1,0 +1,1 @@
+void f(void) { int a = 01; int b = 00; int c = 0x1; int d = 0x7fffffff; }

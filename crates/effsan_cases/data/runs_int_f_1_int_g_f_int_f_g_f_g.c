@@ -1,0 +1,1 @@
+void f(void) { int f = 1; { int g = f; int f = g; f = g; } }

@@ -1,0 +1,1 @@
+void f(void) { int i = 0; while (i <= 3) i = i + 1; }

@@ -1,0 +1,1 @@
+void f(void) { int i=1<2;int j=i==1; }

@@ -1,0 +1,1 @@
+void f(void) { int ifx = 0; int elsex = ifx; if (elsex) { int ifx = 1; } }

@@ -1,0 +1,1 @@
+void f(void) { int intx = 0; int printfs = intx; }

@@ -1,0 +1,1 @@
+void f(void) { int p = 1; { int *p = malloc(4); free(p); } p = 2; }

@@ -1,0 +1,1 @@
+void f(void) { int *p = malloc(4); char *q = (char*)p; }

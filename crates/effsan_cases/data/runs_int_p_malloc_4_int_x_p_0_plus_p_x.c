@@ -1,0 +1,1 @@
+void f(void) { int *p = malloc(4); int x = p[0] + p[x]; }

@@ -1,0 +1,8 @@
+void f(void) { 
+
+  int
+x
+=
+1
+;
+ }

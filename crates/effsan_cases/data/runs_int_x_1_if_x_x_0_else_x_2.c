@@ -1,0 +1,1 @@
+void f(void) { int x = 1; if (x) x = 0; else x = 2; }

@@ -1,0 +1,1 @@
+void f(void) { int x = 1; int *p = malloc(12); while (x <= 2) x = (x + p[x]) * 2; }

@@ -1,0 +1,1 @@
+void f(void) { int x = 1; { int x = 2; } { int x = 3; } }

@@ -1,0 +1,1 @@
+void f(void) { while (0) if (1) { } else { } }

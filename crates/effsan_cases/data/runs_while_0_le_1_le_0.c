@@ -1,0 +1,1 @@
+void f(void) { while (0 <= 1 <= 0) { } }

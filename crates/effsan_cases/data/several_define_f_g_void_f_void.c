@@ -1,0 +1,2 @@
+#define f g
+void f(void) { }

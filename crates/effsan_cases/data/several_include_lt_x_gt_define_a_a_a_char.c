@@ -1,0 +1,4 @@
+#include <x>
+#define A A
+A
+'

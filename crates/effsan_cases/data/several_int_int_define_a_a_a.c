@@ -1,0 +1,4 @@
+int int;
+#define A A
+
+A

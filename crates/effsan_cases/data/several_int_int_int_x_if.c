@@ -1,0 +1,4 @@
+int int;
+int x;
+#if
+@

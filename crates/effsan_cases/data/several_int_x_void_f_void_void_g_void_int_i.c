@@ -1,0 +1,5 @@
+int x;
+void f(void) { }
+void g(void) {
+ int i = ;
+}

@@ -1,0 +1,5 @@
+void g(int x) { }
+void f(void)
+{
+ int x = ;
+}

@@ -1,0 +1,3 @@
+void g(void) { }
+
+int x;

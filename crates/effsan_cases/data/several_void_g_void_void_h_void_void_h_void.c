@@ -1,0 +1,3 @@
+void g(void) { }
+void h(void) { }
+void h(void) { }

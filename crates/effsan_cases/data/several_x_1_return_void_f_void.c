@@ -1,0 +1,5 @@
+void f(void) {
+ x = 1;
+ return;
+}
+void f(void) {

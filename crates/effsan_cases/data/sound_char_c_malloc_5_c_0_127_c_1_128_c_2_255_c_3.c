@@ -1,0 +1,1 @@
+void f(void) { char *c = malloc(5); c[0] = 127; c[1] = 128; c[2] = 255; c[3] = 256; c[4] = 0 - 129; printf("%d\n", c[0]); printf("%d\n", c[1]); printf("%d\n", c[2]); printf("%d\n", c[3]); printf("%d\n", c[4]); }

@@ -1,0 +1,1 @@
+void f(void) { char *c = malloc(7); int *q = (int *)c; q[0] = 5; printf("%d\n", q[0]); }

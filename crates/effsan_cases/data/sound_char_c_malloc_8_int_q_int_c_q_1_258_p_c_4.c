@@ -1,0 +1,1 @@
+void f(void) { char *c = malloc(8); int *q = (int *)c; q[1] = 258; printf("%d\n", c[4]); }

@@ -1,0 +1,1 @@
+void f(void) { int i = 0; while (i < 1000) { char *c = malloc(31); c[30] = i; free(c); i = i + 1; } printf("%d\n", i); }

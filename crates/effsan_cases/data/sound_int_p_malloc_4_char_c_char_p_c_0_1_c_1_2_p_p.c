@@ -1,0 +1,1 @@
+void f(void) { int *p = malloc(4); char *c = (char *)p; c[0] = 1; c[1] = 2; printf("%d\n", p[0]); }

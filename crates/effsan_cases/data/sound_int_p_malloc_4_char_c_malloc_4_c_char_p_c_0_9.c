@@ -1,0 +1,1 @@
+void f(void) { int *p = malloc(4); char *c = malloc(4); c = (char *)p; c[0] = 9; printf("%d\n", p[0]); }

@@ -1,0 +1,1 @@
+void f(void) { int *p = malloc(4); p[0] = 0 - 2; char *c = (char *)p; printf("%d\n", c[0]); printf("%d\n", c[3]); }

@@ -1,0 +1,1 @@
+void f(void) { int *p = malloc(8); free(p); int *q = malloc(8); printf("%d\n", q[1]); free(q); }

@@ -1,0 +1,1 @@
+void f(void) { int *p = malloc(8); p[p[0] + 1] = 3; printf("%d\n", p[p[p[1] - 3] + 1]); }

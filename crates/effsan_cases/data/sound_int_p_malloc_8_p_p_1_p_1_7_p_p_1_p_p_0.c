@@ -1,0 +1,1 @@
+void f(void) { int *p = malloc(8); printf("%d\n", p[1]); p[1] = 7; printf("%d\n", p[1]); printf("%d\n", p[0]); }

@@ -1,0 +1,1 @@
+void f(void) { int *q = (int *)q; free(q); char *c = (char *)q; free(c); printf("%d\n", 5); }

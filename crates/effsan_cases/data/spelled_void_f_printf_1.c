@@ -1,0 +1,1 @@
+void f() { printf("%d\n", 1); }

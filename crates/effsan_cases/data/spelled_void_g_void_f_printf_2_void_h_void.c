@@ -1,0 +1,1 @@
+void g() { } void f() { printf("%d\n", 2); } void h(void) { }

@@ -1,0 +1,1 @@
+void f(void) { int g = 1; } void g(void) { int f = 1; }

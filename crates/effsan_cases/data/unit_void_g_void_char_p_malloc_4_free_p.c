@@ -1,0 +1,1 @@
+void f(void) { } void g(void) { char *p = malloc(4); free(p); }

@@ -1,0 +1,1 @@
+void Printf(void) { } void f(void) { } void f_(void) { } void F(void) { }

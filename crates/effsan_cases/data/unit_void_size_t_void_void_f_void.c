@@ -1,0 +1,1 @@
+void size_t(void) { } void f(void) { }

@@ -1,0 +1,1 @@
+struct S { typedef int T; T x; };

@@ -1,0 +1,1 @@
+typedef int T; int f(typedef int T, T x);

@@ -1,0 +1,1 @@
+char a[sizeof(int)][sizeof a];

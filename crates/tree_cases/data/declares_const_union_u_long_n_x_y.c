@@ -1,0 +1,1 @@
+const union U { long n; } *x, y;

@@ -1,0 +1,1 @@
+int f(const char *, int (*)(int), int [2]);

@@ -1,0 +1,1 @@
+int *restrict const *const x;

@@ -1,0 +1,1 @@
+int static const x; inline restrict int y;

@@ -1,0 +1,1 @@
+signed char x; long long y; void *z;

@@ -1,0 +1,1 @@
+static char *f(char *s) { s++; return s; }

@@ -1,0 +1,1 @@
+static int a; extern int b; register int c; auto int d;

@@ -1,0 +1,1 @@
+struct S { struct { int a; } b; union { int c, *d; } e; };

@@ -1,0 +1,1 @@
+struct V { int n; long v[]; };

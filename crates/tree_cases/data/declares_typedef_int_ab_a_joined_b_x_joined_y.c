@@ -1,0 +1,3 @@
+typedef int AB; A\
+B x\
+y;

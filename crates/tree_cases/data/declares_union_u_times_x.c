@@ -1,0 +1,1 @@
+union U *x;

@@ -1,0 +1,1 @@
+typedef int T, U; void g(void) { 1 + 2u + 3l + 4ul; }

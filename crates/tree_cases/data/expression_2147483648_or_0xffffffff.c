@@ -1,0 +1,1 @@
+typedef int T, U; void g(void) { 2147483648 | 0xffffffff; }

@@ -1,0 +1,1 @@
+typedef int T, U; void g(void) { 4294967296ull - 0x8000000000000000; }

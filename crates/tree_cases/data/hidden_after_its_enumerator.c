@@ -1,0 +1,1 @@
+typedef int T; enum E { T = (T)3, A = T };

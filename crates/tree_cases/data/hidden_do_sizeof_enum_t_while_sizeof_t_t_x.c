@@ -1,0 +1,1 @@
+typedef int T; void f(void) { do sizeof(enum { T }); while (sizeof(T)); T x; }

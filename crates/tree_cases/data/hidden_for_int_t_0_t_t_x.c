@@ -1,0 +1,1 @@
+typedef int T; void f(void) { for (int T = 0;;) T; T x; }

@@ -1,0 +1,1 @@
+typedef int T; void f(void) { if (1) sizeof(enum { T }); else sizeof(T); }

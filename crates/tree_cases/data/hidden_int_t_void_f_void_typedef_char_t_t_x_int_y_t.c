@@ -1,0 +1,1 @@
+int T; void f(void) { typedef char T; T x; } int y = T;

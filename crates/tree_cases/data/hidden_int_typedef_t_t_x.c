@@ -1,0 +1,1 @@
+int typedef T; T x;

@@ -1,0 +1,1 @@
+size_t n; uint8_t b[4];

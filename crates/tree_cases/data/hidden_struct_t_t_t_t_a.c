@@ -1,0 +1,1 @@
+typedef int T; struct T { T T; T a; };

@@ -1,0 +1,1 @@
+typedef int T; void f(void) { switch (sizeof(enum { T })) { case 0: T; } T x; }

@@ -1,0 +1,1 @@
+typedef int T, *P; P x; T const y;

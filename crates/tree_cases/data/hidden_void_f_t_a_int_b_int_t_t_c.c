@@ -1,0 +1,1 @@
+typedef int T; void f(T a, int (*b)(int T)) { T c; }

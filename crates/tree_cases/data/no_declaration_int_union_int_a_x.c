@@ -1,0 +1,1 @@
+int union { int a; } x;

@@ -1,0 +1,1 @@
+long enum = 1;

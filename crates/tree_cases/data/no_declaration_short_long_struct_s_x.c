@@ -1,0 +1,1 @@
+short long struct S x;

@@ -1,0 +1,1 @@
+_Imaginary x;

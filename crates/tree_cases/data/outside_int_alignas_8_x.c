@@ -1,0 +1,1 @@
+int _Alignas(8) x;

@@ -1,0 +1,1 @@
+static _Noreturn void f(void);

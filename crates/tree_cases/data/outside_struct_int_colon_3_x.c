@@ -1,0 +1,1 @@
+struct { int : 3; } x;

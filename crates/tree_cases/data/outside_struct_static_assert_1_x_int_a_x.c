@@ -1,0 +1,1 @@
+struct { _Static_assert(1, "x"); int a; } x;

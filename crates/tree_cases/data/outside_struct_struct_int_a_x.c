@@ -1,0 +1,1 @@
+struct { struct { int a; }; } x;

@@ -1,0 +1,1 @@
+struct { volatile int a; } x;

@@ -1,0 +1,5 @@
+int f(int a,
+ size_t *b);
+void
+g(struct S, enum E) {
+}

@@ -1,0 +1,6 @@
+static
+const int
+(*p)
+[2] = {
+sizeof
+q };

@@ -1,0 +1,7 @@
+struct S {
+ int a,
+ b;
+};
+enum {
+ A,
+ B = 1 };

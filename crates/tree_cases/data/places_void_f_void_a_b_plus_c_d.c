@@ -1,0 +1,6 @@
+void f(void)
+{
+  a = b
+    + c,
+  d;
+}

@@ -1,0 +1,1 @@
+typedef int T, U; void g(void) { case 1: default: continue; break; }

@@ -1,0 +1,1 @@
+typedef int T, U; void g(void) { do do x; while (a); while (b); }

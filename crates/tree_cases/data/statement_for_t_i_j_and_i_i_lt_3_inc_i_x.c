@@ -1,0 +1,1 @@
+typedef int T, U; void g(void) { for (T i, *j = &i; i < 3; ++i) x; }

@@ -1,0 +1,1 @@
+typedef int T, U; void g(void) { int x = 1; x; T y; y = x; }

@@ -1,0 +1,1 @@
+typedef int T, U; void g(void) { static int x; extern int y; register T z; }

@@ -1,0 +1,1 @@
+typedef int T, U; void g(void) { struct S { int a; } s; s.a = 1; }

@@ -1,0 +1,1 @@
+typedef int T, U; void g(void) { switch (a) { case 1: x; default: case 2 + 3: break; } }

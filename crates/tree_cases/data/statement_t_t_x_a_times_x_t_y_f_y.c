@@ -1,0 +1,1 @@
+typedef int T, U; void g(void) { T; T * x; a * x; T (y); f(y); }

@@ -1,0 +1,1 @@
+const T *(*)(const U, unsigned T)

@@ -1,0 +1,1 @@
+int (*(*[2])(char *restrict))()

@@ -1,0 +1,1 @@
+int (T T, int (T))

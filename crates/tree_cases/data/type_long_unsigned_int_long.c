@@ -1,0 +1,1 @@
+long unsigned int long

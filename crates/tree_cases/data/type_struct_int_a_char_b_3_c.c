@@ -1,0 +1,1 @@
+struct { int a; char b[3], *c; }

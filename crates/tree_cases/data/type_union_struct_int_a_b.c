@@ -1,0 +1,1 @@
+union { struct { int a; } b; }
