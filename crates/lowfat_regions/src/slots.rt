@@ -1,0 +1,71 @@
+//! Slots and their addresses.
+
+ghost use Rattle.std.specs.Prelude.{◌≡◌, ◌+◌, ◌*◌, ◌/◌, ◌<◌, ◌≤◌, ◌^◌, IsSome};
+ghost use Rattle.lowfat_regions.specs.Regions as spec;
+ghost use Rattle.lowfat_regions.specs.Regions.{IsRegion, slots};
+ghost use Rattle.lowfat_regions.specs.Shapes as shapes;
+
+use crate::regions::{region_of, size_of_region};
+use crate::shapes::{Shape, shape_of};
+
+/// More than the slots of a region have together.
+const SLOT_BYTES: u64 = 1 << 24;
+
+/// The bits of a reciprocal before its point.
+const RECIPROCAL_BITS: u32 = 40;
+
+/// The multiple of the size of its region's slots at or below an address.
+#[tactic(auto, unfolding(crate::specs::Regions::slot_base))]
+pub fn slot_base(addr: u64) -> u64
+    requires { IsSome (spec.region_of addr) }
+    ensures { result ≡ spec.slot_base addr }
+{
+    match region_of(addr) {
+        Some(region) => addr - addr % size_of_region(region),
+        None => 0,
+    }
+}
+
+/// How many slots of a region there are before so many bytes: a division by the bytes of a slot.
+fn slots_before(shape: Shape, region: u32, bytes: u64) -> u64
+    requires region { IsRegion region }
+    requires shape { shape ≡ shapes.shape_of region }
+    requires few { bytes < 2 ^ 24 }
+    ensures { result ≡ bytes / spec.size_of region }
+{
+    (bytes * shape.reciprocal) >> RECIPROCAL_BITS
+}
+
+/// The number of the slot of an address in its region, and none where the address is in no slot.
+#[tactic(auto, unfolding(crate::specs::Regions::slot_of, crate::specs::Regions::slot_in))]
+pub fn slot_number(addr: u64) -> Option<u32>
+    ensures { result ≡ spec.slot_number addr }
+{
+    let region = region_of(addr)?;
+    let shape = shape_of(region);
+    if addr < shape.first {
+        return None;
+    }
+    let past = addr - shape.first;
+    if past >= SLOT_BYTES {
+        return None;
+    }
+    let number = slots_before(shape, region, past);
+    if number < u64::from(shape.slots) {
+        Some(number as u32)
+    } else {
+        None
+    }
+}
+
+/// Where a slot of a region begins.
+#[tactic(auto, using(crate::proofs::Addresses::slot_within), unfolding(crate::specs::Regions::slot_address))]
+pub fn slot_address(region: u32, slot: u32) -> u64
+    requires region { IsRegion region }
+    requires slot { slot < slots region }
+    ensures value { result ≡ spec.slot_address (record { region = region; number = slot }) }
+    ensures within { (region * 2 ^ 32 ≤ result) × (result + spec.size_of region ≤ (region + 1) * 2 ^ 32) }
+{
+    let shape = shape_of(region);
+    shape.first + u64::from(slot) * shape.size
+}
