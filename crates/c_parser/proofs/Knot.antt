@@ -1,5 +1,5 @@
 -- The readers of expressions of one depth in terms of those of the depth below.
-use Rattle.std.proofs.Common.{◌≡◌, ℕ, zero, suc, ◌+◌, ◌-◌, ◌<◌, List, refl, sym, subst, arith, Result, Err}
+use Rattle.std.proofs.Common.{◌≡◌, ℕ, zero, suc, ◌-◌, ◌<◌, refl, sym, subst, arith, Result, Err}
 use Rattle.c_grammar.specs.declared.phrases.Expression.{Expression}
 use Rattle.grammar_descent.specs.ExpressionSteps as step
 use Rattle.grammar_descent.specs.AllReaders.{readers}

@@ -1,5 +1,5 @@
 -- A declarator is read, and then its name is asked for.
-use Rattle.std.proofs.Common.{◌≡◌, ℕ, ◌<◌, length, List, Option, Some, None, option_map, IfSome, Result, Ok, Err, refl, sym, subst}
+use Rattle.std.proofs.Common.{◌≡◌, ℕ, ◌<◌, length, List, Option, Some, None, IfSome, Ok, Err, refl, sym, subst}
 use Rattle.c_tokens.specs.declared.token.Token.{Token}
 use Rattle.c_grammar.specs.declared.words.Naming.TheVariants as naming
 use Rattle.token_texts.specs.Texts.{Texts}

@@ -1,5 +1,5 @@
 -- What is found, with the texts of the tokens, is what is derived, and nothing else.
-use Rattle.std.proofs.Common.{◌≡◌, ◌≤◌, ◌+◌, ◌*◌, ◌↔◌, ℕ, Option, Some, None, Result, Ok, Err, refl, ap, ◌∙◌, sym, subst, alloc_error, arith}
+use Rattle.std.proofs.Common.{◌≡◌, ◌≤◌, ◌+◌, ◌*◌, ◌↔◌, ℕ, Option, Some, Result, Ok, Err, refl, ap, ◌∙◌, sym, subst, alloc_error, arith}
 use Rattle.c_tokens.specs.Limits.{max_tokens}
 use Rattle.c_grammar.specs.Limits.{max_nodes}
 use Rattle.token_texts.specs.Texts.{Texts}

@@ -1,5 +1,5 @@
 -- Declarators that have a name, which is a number, as the grammar's readers say them: by its spelling.
-use Rattle.std.specs.Prelude.{◌≡◌, ℕ, ◌<◌, List, option_map, IfSome, Result, Ok, Err, IfOk, length}
+use Rattle.std.specs.Prelude.{ℕ, ◌<◌, List, option_map, IfSome, Result, Ok, Err, IfOk, length}
 use Rattle.c_tokens.specs.declared.token.Token.{Token}
 use Rattle.token_texts.specs.Texts.{Texts, name_of}
 use Rattle.grammar_descent.specs.Reading.{Reading}

@@ -9,8 +9,7 @@ use Rattle.grammar_descent.specs.DeclaratorSteps.{declarator, parentheses_here, 
 use Rattle.grammar_descent.specs.Exact.{Exact, Grows}
 use Rattle.token_reader.specs.declared.error.ParseError.{ParseError}
 use Rattle.token_reader.specs.Input.{Input, Gives, Reads}
-use Rattle.token_reader.specs.Found.{spelled_declarator, spelled_found, HasSpelling, ReadsDeclarator}
-use Rattle.token_reader.specs.declared.error.ParseError.TheVariants.{Syntax}
+use Rattle.token_reader.specs.Found.{spelled_declarator, spelled_found, ReadsDeclarator}
 use Rattle.token_reader.specs.declared.found.FoundSpecs.{FoundSpecs}
 use Rattle.token_reader.specs.declared.found.FoundDeclarator.{FoundDeclarator}
 use Rattle.token_reader.specs.Nests.{FoundExpression, with_kind}

@@ -1,5 +1,5 @@
 -- Words and whole types are counted specifier by specifier.
-use Rattle.std.proofs.Common.{◌≡◌, Option, Some, None, is_some, ℕ, suc, ◌+◌, ◌==◌, ◌&&◌, ◌||◌, Bool, true, false, cond, ◌∙◌, nat_lt, List, [], ◌∷◌, map, length, count_by, not, refl, sym, ap, arith}
+use Rattle.std.proofs.Common.{◌≡◌, Some, None, is_some, ℕ, suc, ◌+◌, ◌==◌, ◌&&◌, ◌||◌, Bool, true, false, cond, ◌∙◌, nat_lt, List, [], ◌∷◌, count_by, not, refl, sym, ap, arith}
 use Rattle.std.specs.List.{list_any}
 use Rattle.std.proofs.lemmas.List.Recursion.{is_count_by}
 use Rattle.std.proofs.lemmas.Bool.Decides.{nat_tests}
@@ -12,7 +12,6 @@ use Rattle.c_grammar.specs.declared.words.NameKind.{NameKind}
 use Rattle.c_grammar.specs.declared.words.NameKind.TheVariants as kind
 use Rattle.c_grammar.specs.Scope.{declared_kind}
 use denote.Enum.Bare.{sameb}
-use Rattle.c_grammar.specs.declared.words.BasicType.{BasicType}
 use Rattle.grammar_descent.specs.Reading.{◌>>=◌}
 use Rattle.grammar_descent.specs.TypeWords.{times, holds_no_type, are_none, Sign, sign_of, type_of, spelled_type, holds_one_type}
 use Rattle.declarator_parser.specs.Roles.{role_of, roles_of, spells_word, is_whole, is_of_type, is_basic, makes_types}

@@ -1,5 +1,5 @@
 -- Specifiers, one by one.
-use Rattle.std.proofs.Common.{◌≡◌, ◌∙◌, ℕ, zero, suc, Bool, true, false, length, if◌then◌else◌, ◌+◌, max, List, [], ◌∷◌, ◌++◌, map, Option, Some, None, refl, ap}
+use Rattle.std.proofs.Common.{◌≡◌, ◌∙◌, ℕ, zero, suc, Bool, true, false, length, if◌then◌else◌, max, List, [], ◌∷◌, ◌++◌, Option, Some, None, refl, ap}
 use Rattle.c_tokens.specs.declared.token.Token.{Token}
 use Rattle.c_grammar.specs.declared.phrases.Expression.{Expression}
 use Rattle.c_grammar.specs.declared.phrases.Specifier.{Specifier}

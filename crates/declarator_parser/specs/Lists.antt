@@ -1,5 +1,5 @@
 -- Lists in braces, with the braces that close or open them (C11 6.7.2).
-use Rattle.std.specs.Prelude.{ℕ, ◌+◌, List, Option, Some, None, if◌then◌else◌}
+use Rattle.std.specs.Prelude.{ℕ, List, Option, Some, None, if◌then◌else◌}
 use Rattle.c_tokens.specs.declared.kind.Mark.TheVariants as mark
 use Rattle.c_tokens.specs.declared.token.Token.{Token}
 use Rattle.c_grammar.specs.declared.words.Aggregate.{Aggregate}

@@ -1,8 +1,6 @@
 -- What specifiers do is known from them alone (C11 6.7, 6.7.8).
 use Rattle.std.specs.Prelude.{ℕ, Bool, true, false, List, map, Result, Ok, Err}
 use Rattle.c_grammar.specs.declared.words.BasicWord.{BasicWord}
-use Rattle.c_grammar.specs.declared.words.Storage.{Storage}
-use Rattle.c_grammar.specs.declared.words.Storage.TheVariants as storage
 use Rattle.c_grammar.specs.declared.phrases.Specifier.{Specifier}
 use Rattle.c_grammar.specs.declared.phrases.Specifier.TheVariants as specifier
 use Rattle.c_grammar.specs.contracts.words.BasicWord.{the_type}

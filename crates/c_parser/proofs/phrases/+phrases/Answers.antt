@@ -1,4 +1,4 @@
-use Rattle.std.proofs.Common.{◌≡◌, ◌<◌, arith}
+use Rattle.std.proofs.Common.{arith}
 use Rattle.c_grammar.specs.Operators.{tightness}
 use Rattle.c_parser.proofs.Knot.{none_at_zero, one_deeper}
 use Rattle.c_parser.proofs.phrases.+phrases.Goals as goal

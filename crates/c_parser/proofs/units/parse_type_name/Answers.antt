@@ -4,7 +4,7 @@ use Rattle.c_grammar.specs.declared.phrases.TypePhrase.{TypePhrase}
 use Rattle.c_grammar.specs.declared.units.TypeName.{TypeName}
 use Rattle.c_tokens.specs.Names.{Name}
 use Rattle.token_texts.specs.Names.{predefined}
-use Rattle.token_texts.specs.Texts.{Texts, AreTextsWith, name_of}
+use Rattle.token_texts.specs.Texts.{Texts, AreTextsWith}
 use Rattle.c_grammar.specs.Units.{DerivesTypeName}
 use Rattle.grammar_descent.specs.AllReaders.{read_type_name}
 use Rattle.token_reader.specs.declared.error.ParseError.TheVariants.{Syntax}

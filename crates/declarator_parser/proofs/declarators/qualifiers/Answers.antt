@@ -1,4 +1,4 @@
-use Rattle.std.proofs.Common.{◌≡◌, ◌-◌, ◌+◌, suc, Some, None, rules, arith}
+use Rattle.std.proofs.Common.{◌≡◌, Some, None, rules, arith}
 use Rattle.std.proofs.lemmas.Grind.{common_steps}
 use Rattle.grammar_descent.specs.DeclaratorSteps.{qualifiers}
 use Rattle.declarator_parser.specs.Parts.{qualifier_at}

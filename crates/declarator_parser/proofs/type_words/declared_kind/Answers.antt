@@ -1,10 +1,7 @@
-use Rattle.std.proofs.Common.{◌≡◌, ◌∙◌, ◌==◌, not, true, false, count_by, ap, sym, rules, arith}
-use Rattle.std.specs.List.{list_any}
-use Rattle.std.proofs.lemmas.Bool.Decides.{nat_tests}
+use Rattle.std.proofs.Common.{◌≡◌, ◌∙◌, count_by, sym, rules}
 use Rattle.c_grammar.specs.declared.phrases.Specifier.{Specifier}
-use Rattle.c_grammar.specs.Scope.{declared_kind}
-use Rattle.declarator_parser.specs.Roles.{role_of, roles_of, makes_types}
-use Rattle.declarator_parser.proofs.RoleCounts.{none-counted, no_type-none, a_type-some}
+use Rattle.declarator_parser.specs.Roles.{role_of, makes_types}
+use Rattle.declarator_parser.proofs.RoleCounts.{no_type-none, a_type-some}
 use Rattle.declarator_parser.proofs.type_words.declared_kind.Goals as goal
 
 pub returns-then-count-eq0 : goal.returns-then-count-eq0

@@ -1,4 +1,4 @@
-use Rattle.std.proofs.Common.{◌≡◌, true, false, nat_eq, sym, ◌∙◌, ap, not, rules, arith}
+use Rattle.std.proofs.Common.{sym, ◌∙◌, rules, arith}
 use Rattle.std.proofs.lemmas.Grind.{common_steps}
 use Rattle.declarator_parser.specs.Roles.{roles_of}
 use Rattle.declarator_parser.proofs.RoleCounts.{whole-none, whole-one, whole-more, not_one}

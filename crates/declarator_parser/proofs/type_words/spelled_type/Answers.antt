@@ -1,7 +1,7 @@
-use Rattle.std.proofs.Common.{◌≡◌, ◌∙◌, Some, None, sym, refl, ap, rules, arith}
+use Rattle.std.proofs.Common.{◌≡◌, ◌∙◌, Some, None, rules, arith}
 use Rattle.std.proofs.lemmas.Grind.{common_steps}
 use Rattle.c_grammar.specs.Words.{basic_words}
-use Rattle.grammar_descent.specs.TypeWords.{spelled_type, type_of, sign_of}
+use Rattle.grammar_descent.specs.TypeWords.{sign_of}
 use Rattle.declarator_parser.specs.Roles.{roles_of}
 use Rattle.declarator_parser.specs.Signs.{as_sign}
 use Rattle.declarator_parser.proofs.RoleCounts.{spelled, not_spelled}

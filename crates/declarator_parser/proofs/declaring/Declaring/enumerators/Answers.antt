@@ -1,11 +1,10 @@
-use Rattle.std.proofs.Common.{◌≡◌, ◌-◌, ◌+◌, suc, ◌&&◌, true, false, Some, None, rules, arith}
+use Rattle.std.proofs.Common.{◌≡◌, ◌+◌, ◌&&◌, true, false, rules, arith}
 use Rattle.std.proofs.lemmas.Grind.{common_steps}
 use Rattle.c_tokens.specs.declared.kind.Kind.TheVariants as k
 use Rattle.c_tokens.specs.declared.kind.Mark.TheVariants as mark
 use Rattle.grammar_descent.specs.Reading.{mark_at, sees}
 use Rattle.grammar_descent.specs.AllReaders.{readers}
-use Rattle.grammar_descent.specs.SpecifierSteps.{declarators, members, member_at, enumerators, enumerator_at}
-use Rattle.declarator_parser.specs.Below.{below}
+use Rattle.grammar_descent.specs.SpecifierSteps.{enumerators, enumerator_at}
 use Rattle.declarator_parser.proofs.Parts.{one_more, no_more, reads-at}
 use Rattle.declarator_parser.proofs.ListSteps.{enumerators_none, enumerators_last, enumerators_more, enumerators_zero}
 use Rattle.declarator_parser.proofs.declaring.Declaring.enumerators.Goals as goal

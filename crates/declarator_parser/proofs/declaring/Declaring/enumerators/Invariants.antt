@@ -1,7 +1,6 @@
-use Rattle.std.proofs.Common.{◌≡◌, ◌<◌, ◌≤◌, ◌-◌, [], length}
+use Rattle.std.proofs.Common.{◌≡◌, ◌≤◌, ◌-◌, [], length}
 use Rattle.grammar_descent.specs.AllReaders.{readers}
 use Rattle.grammar_descent.specs.SpecifierSteps.{enumerators}
-use Rattle.declarator_parser.specs.Below.{below}
 use Rattle.declarator_parser.proofs.declaring.Declaring.enumerators.Given as goal
 
 abbrev pub invariant-loop-turn : goal.invariant-loop-turn

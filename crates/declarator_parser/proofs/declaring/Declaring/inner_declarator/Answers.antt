@@ -1,4 +1,4 @@
-use Rattle.std.proofs.Common.{ℕ, ◌-◌, refl}
+use Rattle.std.proofs.Common.{◌-◌}
 use Rattle.token_reader.specs.declared.found.FoundDeclarator.{FoundDeclarator}
 use Rattle.declarator_parser.proofs.Depths.{one_less, declarator-below, no_declarator-below, low-below, declarator-low, declarator-grow}
 use Rattle.declarator_parser.proofs.declaring.Declaring.inner_declarator.Goals as goal

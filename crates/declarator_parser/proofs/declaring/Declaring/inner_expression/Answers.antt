@@ -1,4 +1,4 @@
-use Rattle.std.proofs.Common.{ℕ, ◌-◌, refl}
+use Rattle.std.proofs.Common.{◌-◌, refl}
 use Rattle.c_grammar.specs.Operators.{tightness}
 use Rattle.c_grammar.specs.declared.words.Level.TheVariants as of
 use Rattle.grammar_descent.specs.Reading.{Readers}

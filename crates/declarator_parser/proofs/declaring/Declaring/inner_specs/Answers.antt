@@ -1,4 +1,4 @@
-use Rattle.std.proofs.Common.{ℕ, ◌-◌, refl}
+use Rattle.std.proofs.Common.{◌-◌}
 use Rattle.grammar_descent.specs.AllReaders.{readers}
 use Rattle.token_reader.specs.declared.found.FoundSpecs.{FoundSpecs}
 use Rattle.declarator_parser.proofs.Depths.{one_less, specs-below, no_specs-below, low-below, told, specs-low, specs-grow}

@@ -1,5 +1,4 @@
-use Rattle.std.proofs.Common.{◌≡◌, ◌<◌, ◌≤◌, ◌-◌, [], length}
-use Rattle.grammar_descent.specs.AllReaders.{readers}
+use Rattle.std.proofs.Common.{◌≡◌, ◌<◌, ◌-◌, [], length}
 use Rattle.grammar_descent.specs.SpecifierSteps.{members}
 use Rattle.declarator_parser.specs.Below.{below}
 use Rattle.declarator_parser.proofs.declaring.Declaring.members.Given as goal

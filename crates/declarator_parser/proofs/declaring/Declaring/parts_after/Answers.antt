@@ -1,7 +1,7 @@
-use Rattle.std.proofs.Common.{◌≡◌, ◌-◌, ◌+◌, suc, Some, None, Ok, Err, ◌∙◌, rules, arith}
+use Rattle.std.proofs.Common.{◌≡◌, Some, None, Ok, Err, ◌∙◌, rules, arith}
 use Rattle.std.proofs.lemmas.Grind.{common_steps}
 use Rattle.grammar_descent.specs.DeclaratorSteps.{parts_after}
-use Rattle.token_reader.specs.Found.{spelled_declarator, HasSpelling}
+use Rattle.token_reader.specs.Found.{spelled_declarator}
 use Rattle.declarator_parser.specs.Below.{below}
 use Rattle.declarator_parser.specs.Parts.{part_at, part_after}
 use Rattle.declarator_parser.proofs.Parts.{one_more, no_more, declarator_reads-at, parts_done, parts_fail, parts_more, parts-zero}

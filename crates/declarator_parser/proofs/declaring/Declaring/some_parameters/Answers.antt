@@ -1,4 +1,4 @@
-use Rattle.std.proofs.Common.{◌≡◌, ◌-◌, ◌+◌, suc, true, false, Some, None, rules, arith}
+use Rattle.std.proofs.Common.{◌≡◌, true, false, rules, arith}
 use Rattle.std.proofs.lemmas.Grind.{common_steps}
 use Rattle.c_tokens.specs.declared.kind.Mark.TheVariants as mark
 use Rattle.grammar_descent.specs.Reading.{mark_at}
