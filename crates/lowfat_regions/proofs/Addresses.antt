@@ -3,21 +3,21 @@ use Rattle.std.proofs.Common.{◌≡◌, ℕ, ◌+◌, ◌-◌, ◌*◌, ◌/◌
 use Rattle.std.specs.Prelude.{nat_le}
 use Rattle.std.proofs.lemmas.Bool.{agree_below_at, and_parts, and_from, leb-true, lt-ltb, le-leb, cond-true}
 use Rattle.std.proofs.lemmas.Nat.{div-mul-add, div-add-mod'}
-use Rattle.lowfat_regions.specs.Regions.{SlotsLaw, Slot, slot_of, slot_in, region_of, size_of, sizes, first_multiple, slots, slot_address}
+use Rattle.lowfat_regions.specs.Regions.{SlotsLaw, last_region, Slot, slot_of, slot_in, region_of, size_of, sizes, first_multiple, slots, slot_address}
 
 -- a slot has 32 bytes or more, and 2^20 or fewer
-pub size_ok : (r : ℕ) → r ≤ 27 → (32 ≤ size_of r) × (size_of r ≤ 2 ^ 20)
+pub size_ok : (r : ℕ) → r ≤ last_region → (32 ≤ size_of r) × (size_of r ≤ 2 ^ 20)
 unfolding size_of sizes
 size_ok r h =
     let both = and_parts _ _ (agree_below_at (λ r. nat_le 32 (size_of r) && nat_le (size_of r) (2 ^ 20)) (λ _. true) 28 r refl (omega arith)) in
     (leb-true _ _ both.0, leb-true _ _ both.1)
 
 -- a region's first slot begins within a slot's size of the region
-pub first_low : (r : ℕ) → r ≤ 27 → r * 2 ^ 32 ≤ first_multiple r * size_of r
+pub first_low : (r : ℕ) → r ≤ last_region → r * 2 ^ 32 ≤ first_multiple r * size_of r
 unfolding first_multiple
 first_low r h = omega (arith, size_ok r h, div-add-mod' (r * 2 ^ 32 + (size_of r - 1)) (size_of r))
 
-pub first_high : (r : ℕ) → r ≤ 27 → first_multiple r * size_of r ≤ r * 2 ^ 32 + 2 ^ 20
+pub first_high : (r : ℕ) → r ≤ last_region → first_multiple r * size_of r ≤ r * 2 ^ 32 + 2 ^ 20
 unfolding first_multiple
 first_high r h = omega (arith, size_ok r h, div-add-mod' (r * 2 ^ 32 + (size_of r - 1)) (size_of r))
 
@@ -29,13 +29,13 @@ slots_within r n h =
     omega (arith, mul-le-mul_right (size_of r) k, add-mul n 1 (size_of r), div-add-mod' (2 ^ 24) (size_of r))
 
 -- a slot lies in its region, and well below the words' addresses
-pub slot_within : (r n : ℕ) → r ≤ 27 → n < slots r → (r * 2 ^ 32 ≤ (first_multiple r + n) * size_of r) × ((first_multiple r + n) * size_of r + size_of r ≤ r * 2 ^ 32 + 2 ^ 25)
+pub slot_within : (r n : ℕ) → r ≤ last_region → n < slots r → (r * 2 ^ 32 ≤ (first_multiple r + n) * size_of r) × ((first_multiple r + n) * size_of r + size_of r ≤ r * 2 ^ 32 + 2 ^ 25)
 slot_within r n h k =
     let sum = add-mul (first_multiple r) n (size_of r) in
     let within = slots_within r n k in
     (omega (arith, sum, first_low r h), omega (arith, sum, within, first_high r h))
 
-module _ (s : Slot) (k : ℕ) (above : 1 ≤ s.region) (below : s.region ≤ 27) (is_slot : s.number < slots s.region) (inside : k < size_of s.region) where
+module _ (s : Slot) (k : ℕ) (above : 1 ≤ s.region) (below : s.region ≤ last_region) (is_slot : s.number < slots s.region) (inside : k < size_of s.region) where
   address-is : slot_address s + k ≡ s.region * 2 ^ 32 + (slot_address s + k - s.region * 2 ^ 32)
   unfolding slot_address
   address-is = omega (arith, first_low s.region below, add-mul (first_multiple s.region) s.number (size_of s.region))

@@ -1,5 +1,5 @@
--- The regions from 1 to 27 and their slots (after low-fat pointers: the region of an address tells the size of its slots, and a
--- slot begins at a multiple of that size).
+-- The regions from 1 to 27 and their slots (after low-fat pointers: the region of an address tells the size of its slots,
+-- and a slot begins at a multiple of that size).
 use Rattle.std.specs.Prelude.{◌≡◌, ◌<◌, ◌≤◌, ℕ, ◌+◌, ◌-◌, ◌*◌, ◌/◌, ◌%◌, ◌^◌, Bool, ◌&&◌, ◌==◌, nat_lt, nat_le, if◌then◌else◌, min, List, [], ◌∷◌, length, slice_index, Option, Some, None, option_map}
 use Rattle.std.specs.List.{position_or_len}
 
@@ -35,10 +35,10 @@ size_of region = slice_index sizes (region - 1)
 unfoldable pub slots : ℕ → ℕ
 slots region = min 65536 (2 ^ 24 / size_of region)
 
--- the region for an object of this size: the first with room for a header of 16 bytes and one byte past the object
+-- the region for an object of this size: the first with room for its header and one byte past the object
 unfoldable pub class_of : ℕ → Option ℕ
 class_of size =
-    let index = position_or_len (λ s. nat_le (size + 17) s) sizes in
+    let index = position_or_len (λ s. nat_le (size + header_bytes + 1) s) sizes in
     if nat_lt index (length sizes) then Some (index + 1) else None
 
 -- the region of an address: region r has the 2 ^ 32 addresses from r * 2 ^ 32 on

@@ -1,8 +1,8 @@
 //! The regions from 1 to 27: the bytes of their slots, and which is that of a size or of an address.
 
-ghost use Rattle.std.specs.Prelude.{◌≡◌, ◌≤◌, ◌^◌, ◌↔◌, IsSome, IfSome};
+ghost use Rattle.std.specs.Prelude.{◌≡◌, ◌+◌, ◌≤◌, ◌^◌, ◌↔◌, IsSome, IfSome};
 ghost use Rattle.lowfat_regions.specs.Regions as spec;
-ghost use Rattle.lowfat_regions.specs.Regions.{IsRegion};
+ghost use Rattle.lowfat_regions.specs.Regions.{IsRegion, header_bytes, max_object_bytes};
 ghost use Rattle.lowfat_regions.specs.Shapes.{HasNoRoomBefore};
 
 use crate::shapes::shape_of;
@@ -49,7 +49,7 @@ pub fn region_of(addr: u64) -> Option<u32>
 
 /// The first region whose slots have so many bytes, for which halving the regions takes five steps at most.
 fn first_with_room(bytes: u64) -> u32
-    requires { bytes ≤ 2 ^ 20 }
+    requires { bytes ≤ max_object_bytes + header_bytes + 1 }
     ensures region { IsRegion result }
     ensures room { bytes ≤ spec.size_of result }
     ensures first { HasNoRoomBefore bytes result }
@@ -71,7 +71,7 @@ fn first_with_room(bytes: u64) -> u32
 #[tactic(auto, using(crate::proofs::Classes::class_is, crate::proofs::Classes::class_of_room, crate::proofs::Classes::class_of_none))]
 pub fn class_of(size: u64) -> Option<u32>
     ensures value { result ≡ spec.class_of size }
-    ensures room { IsSome result ↔ (size ≤ MAX_OBJECT_BYTES) }
+    ensures room { IsSome result ↔ (size ≤ max_object_bytes) }
     ensures range { IfSome result IsRegion }
 {
     if size > MAX_OBJECT_BYTES {

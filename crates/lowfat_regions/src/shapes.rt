@@ -6,8 +6,8 @@ ghost use Rattle.lowfat_regions.specs.Shapes as spec;
 
 use crate::regions::REGIONS;
 
-/// What the arithmetic of a region is made of: the bytes of a slot, how many slots there are, where the first of them begins,
-/// and 2^40 by the bytes of a slot, rounded up.
+/// What the arithmetic of a region is made of: the bytes of a slot, how many slots there are, where the first of them
+/// begins, and 2^40 by the bytes of a slot, rounded up.
 #[derive(Clone, Copy, Debug)]
 pub(crate) struct Shape {
     pub(crate) size: u64,

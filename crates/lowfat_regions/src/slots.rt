@@ -1,15 +1,15 @@
 //! Slots and their addresses.
 
-ghost use Rattle.std.specs.Prelude.{◌≡◌, ◌+◌, ◌*◌, ◌/◌, ◌<◌, ◌≤◌, ◌^◌, IsSome};
+ghost use Rattle.std.specs.Prelude.{◌≡◌, ◌+◌, ◌-◌, ◌*◌, ◌/◌, ◌%◌, ◌<◌, ◌≤◌, ◌^◌, IsSome, Some};
 ghost use Rattle.lowfat_regions.specs.Regions as spec;
 ghost use Rattle.lowfat_regions.specs.Regions.{IsRegion, slots};
 ghost use Rattle.lowfat_regions.specs.Shapes as shapes;
 
-use crate::regions::{region_of, size_of_region};
+use crate::regions::region_of;
 use crate::shapes::{Shape, shape_of};
 
-/// More than the slots of a region have together.
-const SLOT_BYTES: u64 = 1 << 24;
+/// More than the slots of a region and one slot past them have together.
+const NEAR_BYTES: u64 = 1 << 25;
 
 /// The bits of a reciprocal before its point.
 const RECIPROCAL_BITS: u32 = 40;
@@ -21,16 +21,41 @@ pub fn slot_base(addr: u64) -> u64
     ensures { result ≡ spec.slot_base addr }
 {
     match region_of(addr) {
-        Some(region) => addr - addr % size_of_region(region),
+        Some(region) => base_in_region(region, addr),
         None => 0,
     }
+}
+
+/// The same where the region is known. Near the region's slots it divides by the reciprocal.
+fn base_in_region(region: u32, addr: u64) -> u64
+    requires { IsRegion region }
+    ensures { result ≡ spec.base_in (Some region) addr }
+{
+    let shape = shape_of(region);
+    if addr < shape.first {
+        return base_outside_slots(shape.size, addr);
+    }
+    let past = addr - shape.first;
+    if past >= NEAR_BYTES {
+        return base_outside_slots(shape.size, addr);
+    }
+    shape.first + slots_before(shape, region, past) * shape.size
+}
+
+/// The same for an address far from the slots of its region, which no object has: by a division.
+#[cold]
+fn base_outside_slots(size: u64, addr: u64) -> u64
+    requires { 0 < size }
+    ensures { result ≡ addr - addr % size }
+{
+    addr - addr % size
 }
 
 /// How many slots of a region there are before so many bytes: a division by the bytes of a slot.
 fn slots_before(shape: Shape, region: u32, bytes: u64) -> u64
     requires region { IsRegion region }
     requires shape { shape ≡ shapes.shape_of region }
-    requires few { bytes < 2 ^ 24 }
+    requires few { bytes < 2 ^ 25 }
     ensures { result ≡ bytes / spec.size_of region }
 {
     (bytes * shape.reciprocal) >> RECIPROCAL_BITS
@@ -47,7 +72,7 @@ pub fn slot_number(addr: u64) -> Option<u32>
         return None;
     }
     let past = addr - shape.first;
-    if past >= SLOT_BYTES {
+    if past >= NEAR_BYTES {
         return None;
     }
     let number = slots_before(shape, region, past);

@@ -15,11 +15,11 @@ returns-then-addr-shape c =
     let at = (goal.at.returns-then-addr-shape c).In_ok-region in
     none_before c.args.addr c.in_ok-region.region c.shape_of-shape.result (in_region at) (is_region at) c.shape_of-shape.ensures c.if-addr-shape.true
 
-pub returns-then-past-ge-SLOT_BYTES : goal.returns-then-past-ge-SLOT_BYTES
-returns-then-past-ge-SLOT_BYTES c =
-    let at = (goal.at.returns-then-past-ge-SLOT_BYTES c).In_ok-region in
+pub returns-then-past-ge-NEAR_BYTES : goal.returns-then-past-ge-NEAR_BYTES
+returns-then-past-ge-NEAR_BYTES c =
+    let at = (goal.at.returns-then-past-ge-NEAR_BYTES c).In_ok-region in
     none_far c.args.addr c.in_ok-region.region c.shape_of-shape.result (in_region at) (is_region at) c.shape_of-shape.ensures c.if-addr-shape.false
-    c.if-past-ge-SLOT_BYTES.true
+    c.if-past-ge-NEAR_BYTES.true
 
 pub returns-then-number-from : goal.returns-then-number-from
 returns-then-number-from c =
