@@ -1,0 +1,8 @@
+use Rattle.std.proofs.Common.{◌∙◌}
+use Rattle.whole_numbers.proofs.WordArithmetic.{word_of_both}
+use Rattle.whole_numbers.proofs.arithmetic.bits_of_both.Goals as goal
+
+pub returns-clause-value : goal.returns-clause-value
+returns-clause-value c =
+    c.extended.ensures.value
+    ∙ word_of_both c.args.kind c.args.left c.args.right c.ranges.left.fits c.ranges.right.fits

@@ -1,0 +1,9 @@
+use Rattle.std.proofs.Common.{◌∙◌}
+use Rattle.whole_numbers.proofs.Words.{wrapped_as}
+use Rattle.whole_numbers.proofs.WordArithmetic.{word_of_complement}
+use Rattle.whole_numbers.proofs.arithmetic.complement.Goals as goal
+
+pub returns-clause-value : goal.returns-clause-value
+returns-clause-value c =
+    c.extended.ensures.value
+    ∙ wrapped_as c.args.kind _ _ (word_of_complement c.args.kind c.args.word c.ranges.word.fits)
