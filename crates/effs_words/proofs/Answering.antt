@@ -1,19 +1,19 @@
 -- From a judged line to the answer.
-use Rattle.std.proofs.Common.{◌≡◌, ℕ, ◌⊎◌, inl, inr, Bool, true, false, List, [], ◌∷◌, ◌++◌, length, Option, Some, None, Result, Ok, Err, sym, ap, ◌∙◌, subst, append-nil}
+use Rattle.std.proofs.Common.{◌≡◌, ℕ, inl, inr, Bool, true, false, List, [], ◌∷◌, length, Some, None, Result, Ok, Err, sym, ap, ◌∙◌, subst, append-nil}
 use Rattle.std.specs.Prelude.{IfOk, IfErr, MatchResult}
 use Rattle.effs_words.specs.Numbers.{Word}
 use Rattle.effs_words.specs.Options.{Asked, entry_count, values_of}
 use Rattle.effs_words.specs.Lines.{Reads, IsBadNext, place_after}
 use Rattle.effs_words.specs.Words as words
 use Rattle.effs_words.specs.Words.{Words, BadWord, HasCause, IsMemory, IsOutOfMemory, command_of, run_words, schedule_in}
-use Rattle.effs_words.specs.Judged.{AsksIn, Asks, IsAnswer, IsBadSomewhere, HasLineCause, IsLineOutOfMemory}
+use Rattle.effs_words.specs.Judged.{AsksIn, IsAnswer, IsBadSomewhere, HasLineCause}
 use Rattle.effs_words.specs.declared.command.Command.{Command}
 use Rattle.effs_words.specs.declared.command.Command.TheVariants as command
 use Rattle.effs_words.specs.declared.command.RunWords.{RunWords}
 use Rattle.effs_words.specs.declared.error.WordError.{WordError}
 use Rattle.effs_words.specs.declared.options.CommandName.TheVariants as name
 use Rattle.effs_words.specs.declared.values.Listed.TheVariants.{Entries, Watches}
-use Rattle.effs_words.proofs.Judging.{values_on, listed_of}
+use Rattle.effs_words.proofs.Judging.{values_on}
 use Rattle.effs_words.proofs.OneAnswer.{apart, one_command, one_refusal}
 
 module _ (word : Word) (ws : List Word) where

@@ -1,8 +1,7 @@
 -- The line of words judged as a function on lists, which finds what the relations say, and nothing else.
-use Rattle.std.proofs.Common.{◌≡◌, ℕ, ◌+◌, Bool, true, false, List, [], ◌∷◌, ◌++◌, length, Option, Some, None, Result, Ok, Err, refl, sym, ap, ◌∙◌, subst, append_assoc, append-nil, length-append, arith, cond}
-use Rattle.std.specs.Prelude.{if◌then◌else◌}
+use Rattle.std.proofs.Common.{◌≡◌, ℕ, ◌+◌, Bool, true, false, List, [], ◌∷◌, ◌++◌, Option, Some, None, Result, Ok, Err, refl, sym, ap, ◌∙◌, subst, append_assoc, append-nil, length-append, arith, cond}
 use Rattle.effs_words.specs.Numbers.{Word}
-use Rattle.effs_words.specs.Options.{Asked, nothing, option_of, takes_value, word_fault, value_fault, with_flag, with_value, values_of, awaited, awaited_by, is_listed, onto_if}
+use Rattle.effs_words.specs.Options.{Asked, nothing, option_of, takes_value, word_fault, value_fault, with_flag, with_value, values_of, is_listed, onto_if}
 use Rattle.effs_words.specs.Lines.{Reads, start, alone, valued, IsBadNext, unknown, misplaced, missing, bad_value, no_entry, place_after}
 use Rattle.effs_words.specs.declared.error.WordError.{WordError}
 use Rattle.effs_words.specs.declared.error.WordError.TheVariants as error

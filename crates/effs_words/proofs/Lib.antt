@@ -5,3 +5,5 @@ pub mod OneAnswer
 pub mod Shapes
 pub mod Steps
 pub mod Answering
+mod Places
+mod NoMemory

@@ -1,10 +1,10 @@
 -- Numbers that are read digit by digit.
-use Rattle.std.proofs.Common.{◌≡◌, ℕ, ◌+◌, ◌*◌, ◌<◌, ◌≤◌, ◌^◌, ◌&&◌, Bool, true, false, [], ◌∷◌, length, Some, None, refl, sym, arith, lit≤, lit<, add-one}
+use Rattle.std.proofs.Common.{◌≡◌, ℕ, ◌+◌, ◌*◌, ◌<◌, ◌≤◌, ◌^◌, ◌&&◌, true, false, [], ◌∷◌, length, Some, None, refl, sym, arith, lit<, add-one}
 use Rattle.std.specs.Prelude.{nat_le, if◌then◌else◌}
 use Rattle.std.specs.Char.{is_ascii_digit}
 use Rattle.std.specs.List.{list_all}
 use Rattle.std.proofs.lemmas.Bool.{le-leb, lt-leb}
-use Rattle.effs_words.specs.Numbers.{Word, number_in, value_from, is_within}
+use Rattle.effs_words.specs.Numbers.{Word, number_in, value_from}
 use Rattle.std.proofs.Math.Nat.{pow-suc, pow-le-pow_right}
 
 -- a number of so few digits is small

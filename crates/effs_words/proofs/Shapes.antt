@@ -1,5 +1,5 @@
 -- Lines of a fixed number of words.
-use Rattle.std.proofs.Common.{◌≡◌, ℕ, ◌<◌, ◌≤◌, List, [], ◌∷◌, length, map, get_or, drop, Some, None, refl, sym, ap, ◌∙◌, subst, arith}
+use Rattle.std.proofs.Common.{◌≡◌, ℕ, ◌≤◌, List, [], ◌∷◌, length, map, get_or, Some, None, sym, ap, ◌∙◌, arith}
 use Rattle.effs_words.specs.Numbers.{Word}
 use Rattle.effs_words.specs.Words as words
 use Rattle.effs_words.specs.Words.{Words, BadWord, command_of, size_of, offset_of, scale_of}

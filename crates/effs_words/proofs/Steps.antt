@@ -1,18 +1,18 @@
 -- One option more of a line.
-use Rattle.std.proofs.Common.{◌≡◌, ℕ, zero, suc, ◌+◌, ◌<◌, ◌≤◌, ◌⊎◌, inl, inr, Bool, true, false, List, [], ◌∷◌, ◌++◌, length, map, get_or, take, drop, Option, Some, None, refl, sym, ap, ◌∙◌, subst, append_assoc, append-nil, length-append, length-take-le, arith}
+use Rattle.std.proofs.Common.{◌≡◌, ℕ, zero, suc, ◌+◌, ◌<◌, ◌≤◌, ◌⊎◌, inl, inr, Bool, true, false, List, [], ◌∷◌, ◌++◌, length, map, get_or, take, drop, Some, None, refl, sym, ap, ◌∙◌, subst, append_assoc, append-nil, length-append, length-take-le, arith}
 use Rattle.std.specs.Prelude.{nat_le}
 use Rattle.std.proofs.lemmas.List.{drop_more, drop_all, take-map, take_more, length-map}
 use Rattle.std.proofs.lemmas.Bool.Decides.{leb_tells}
 use Rattle.effs_words.specs.Numbers.{Word}
 use Rattle.effs_words.specs.Options.{Asked, option_of, takes_value, word_fault, value_fault, with_flag, with_value, values_of, told_if}
-use Rattle.effs_words.specs.Lines.{Reads, alone, valued, IsBadNext, unknown, misplaced, missing, bad_value, no_entry, place_after}
+use Rattle.effs_words.specs.Lines.{Reads, alone, valued, IsBadNext, unknown, misplaced, missing, bad_value, place_after}
 use Rattle.effs_words.specs.Judged.{IsBadLine}
 use Rattle.effs_words.specs.declared.error.WordError.{WordError}
 use Rattle.effs_words.specs.declared.error.WordError.TheVariants as error
 use Rattle.effs_words.specs.declared.options.OptionName.{OptionName}
 use Rattle.effs_words.specs.declared.options.OptionName.TheVariants as option
-use Rattle.effs_words.specs.declared.values.Listed.TheVariants.{Entries, Watches}
-use Rattle.effs_words.proofs.Judging.{values_on, listed_of}
+use Rattle.effs_words.specs.declared.values.Listed.TheVariants.{Watches}
+use Rattle.effs_words.proofs.Judging.{values_on}
 
 get_or-map : {X : Type 0} (f : X → Word) (ws : List X) (at : ℕ) (x : X) → get_or (map f ws) at (f x) ≡ f (get_or ws at x)
 get_or-map f [] at x = refl

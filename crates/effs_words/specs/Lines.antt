@@ -1,5 +1,5 @@
 -- Lines of options: which words are options that may stand so, what they say, and the first bad word after them.
-use Rattle.std.specs.Prelude.{◌≡◌, ℕ, ◌+◌, Bool, true, false, List, [], ◌∷◌, ◌++◌, length, Option, Some, None}
+use Rattle.std.specs.Prelude.{◌≡◌, ℕ, ◌+◌, Bool, true, false, List, [], ◌∷◌, ◌++◌, length, Some, None}
 use Rattle.effs_words.specs.Numbers.{Word}
 use Rattle.effs_words.specs.Options.{Asked, nothing, option_of, takes_value, word_fault, value_fault, with_flag, with_value}
 use Rattle.effs_words.specs.declared.error.WordError.{WordError}

@@ -1,5 +1,5 @@
 -- The options of `run` and `play`.
-use Rattle.std.specs.Prelude.{◌≡◌, ℕ, ◌+◌, ◌||◌, Bool, true, false, nat_le, List, [], ◌∷◌, ◌++◌, length, Option, Some, None, is_some, if◌then◌else◌, codes}
+use Rattle.std.specs.Prelude.{ℕ, ◌+◌, ◌||◌, Bool, true, false, nat_le, List, [], ◌∷◌, ◌++◌, length, Option, Some, None, is_some, if◌then◌else◌, codes}
 use Rattle.std.specs.List.{list_any}
 use Rattle.std.specs.Str.{bytes_eq}
 use Rattle.effs_words.specs.Numbers.{Word, number_in}
@@ -57,9 +57,9 @@ is_listed Entries Entry = true
 is_listed Watches Watch = true
 is_listed _ _ = false
 
-abbrev pub onto_if : Bool → Word → List Word → List Word
-onto_if true word words = word ∷ words
-onto_if false word words = words
+abbrev pub onto_if : {A : Type 0} → Bool → A → List A → List A
+onto_if true one others = one ∷ others
+onto_if false one others = others
 
 -- The values of `--entry`, or of `--watch`, in their order. A word that is no option is passed over alone, and an option
 -- without a word after it has no value. The next word is the value of the option before it, where there is one.
@@ -67,6 +67,16 @@ abbrev pub values_of : Bool → Listed → Option OptionName → List Word → L
 values_of play listed before [] = []
 values_of play listed None (word ∷ words) = values_of play listed (awaited play word) words
 values_of play listed (Some name) (word ∷ words) = onto_if (is_listed listed name) word (values_of play listed None words)
+
+-- The places of those values, of words of which the first is word n.
+abbrev pub places_of : Bool → Listed → Option OptionName → ℕ → List Word → List ℕ
+places_of play listed before n [] = []
+places_of play listed None n (word ∷ words) = places_of play listed (awaited play word) (n + 1) words
+places_of play listed (Some name) n (word ∷ words) = onto_if (is_listed listed name) n (places_of play listed None (n + 1) words)
+
+-- The places of the names that `--watch` gives, in the words after the command.
+unfoldable pub watch_places : Bool → List Word → List ℕ
+watch_places play words = places_of play Watches None 2 words
 
 unfoldable pub entry_count : Bool → List Word → ℕ
 entry_count play words = length (values_of play Entries None words)

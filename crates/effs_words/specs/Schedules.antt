@@ -1,5 +1,5 @@
 -- Lists of turns: `W` or `W*C`, joined by commas.
-use Rattle.std.specs.Prelude.{ℕ, ◌-◌, ◌==◌, Bool, nat_le, List, [], ◌∷◌, ◌++◌, Option, Some, None, if◌then◌else◌, replicate}
+use Rattle.std.specs.Prelude.{ℕ, ◌-◌, ◌==◌, nat_le, List, [], ◌∷◌, ◌++◌, Option, Some, None, if◌then◌else◌, replicate}
 use Rattle.std.specs.List.{slice_split}
 use Rattle.effs_words.specs.Numbers.{Word, number_in}
 use Rattle.effs_words.specs.declared.schedule.Turns.{Turns}

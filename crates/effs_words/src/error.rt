@@ -35,6 +35,44 @@ pub enum WordError {
     Excluded(usize),
 }
 
+impl WordError {
+    ghost use Rattle.effs_words.specs.Names.{error_name, error_place};
+
+    /// The name by which an error line tells it.
+    pub fn name(&self) -> &'static [u8]
+        ensures { result.now ≡ error_name self.now }
+    {
+        match self {
+            WordError::Memory(_) => b"OutOfMemory",
+            WordError::NoCommand => b"NoCommand",
+            WordError::UnknownWord(_) => b"UnknownWord",
+            WordError::MissingValue(_) => b"MissingValue",
+            WordError::BadNumber(_) => b"BadNumber",
+            WordError::Repeated(_) => b"Repeated",
+            WordError::NoEntry => b"NoEntry",
+            WordError::TooManyEntries => b"TooManyEntries",
+            WordError::NeedsThreads => b"NeedsThreads",
+            WordError::UnknownWatch(_) => b"UnknownWatch",
+            WordError::Excluded(_) => b"Excluded",
+        }
+    }
+
+    /// The place of the word that it is about, where it is about one.
+    pub fn place(&self) -> Option<usize>
+        ensures { result ≡ error_place self.now }
+    {
+        match self {
+            WordError::UnknownWord(place)
+            | WordError::MissingValue(place)
+            | WordError::BadNumber(place)
+            | WordError::Repeated(place)
+            | WordError::UnknownWatch(place)
+            | WordError::Excluded(place) => Some(*place),
+            _ => None,
+        }
+    }
+}
+
 impl From<AllocError> for WordError {
     ghost from_gives = { λ e r. r ≡ Memory e };
 

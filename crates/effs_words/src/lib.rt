@@ -14,4 +14,5 @@ mod values;
 pub use build::read_words;
 pub use command::{Command, RunWords};
 pub use error::WordError;
-pub use laws::law_words;
+pub use laws::{law_watches, law_words};
+pub use values::watch_place;

@@ -1,6 +1,6 @@
 //! The values of options in a line, whatever else is wrong in it.
 
-ghost use Rattle.std.specs.Prelude.{◌≡◌, Some, None, IfOk, map, string_bytes};
+ghost use Rattle.std.specs.Prelude.{◌≡◌, ◌+◌, ◌<◌, ◌^◌, Some, None, IfOk, length, map, slice_get, string_bytes};
 ghost use Rattle.std.specs.List.{list_any};
 ghost use Rattle.std.specs.Str.{bytes_eq};
 ghost use Rattle.effs_words.specs.Options as spec;
@@ -80,6 +80,34 @@ pub fn is_watched(words: &[String], play: bool, watch: &String) -> bool
         }
     }
     false
+}
+
+/// The place of a name that `--watch` gives, the one of this number of them, counted from 0. `options` are the words after the
+/// command.
+#[tactic(auto, unfolding(crate::specs::Options::watch_places))]
+pub fn watch_place(options: &[String], play: bool, number: usize) -> Option<usize>
+    requires { length options.now + 2 < 2 ^ 64 }
+    ensures { result ≡ slice_get (spec.watch_places play (map string_bytes options.now)) number }
+{
+    let mut left = number;
+    let mut place = 2;
+    let mut before = None;
+    for word in options {
+        match before {
+            Some(name) => {
+                if is_listed(Listed::Watches, name) {
+                    if left == 0 {
+                        return Some(place);
+                    }
+                    left -= 1;
+                }
+                before = None;
+            }
+            None => before = awaited(word, play),
+        }
+        place += 1;
+    }
+    None
 }
 
 /// A text of these bytes.

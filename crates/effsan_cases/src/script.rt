@@ -67,6 +67,8 @@ fn read_field(alloc: Global, script: &mut Script, field: &str) -> Result<(), All
         "takes" => script.out.size = number(value),
         "err-writes" => script.err.piece = number(value),
         "err-failing-writes" => script.err.fail = numbers(alloc, value)?,
+        "err-empty-writes" => script.err.empty = numbers(alloc, value)?,
+        "err-takes" => script.err.size = number(value),
         "ends" => script.ends = Some(number(value)),
         "record" => script.record = true,
         _ => script.unknown = Some(String::from_str(alloc, key)?),

@@ -1,13 +1,17 @@
--- What the status of a run tells of its endings.
-use Rattle.std.proofs.Common.{◌≡◌, ℕ, ◌≤◌, Bool, true, false, List, [], ◌∷◌, refl, sym, subst, arith}
-use Rattle.std.specs.Prelude.{◌↔◌, ◌&&◌, not, IsTrue}
+-- What the status of a run tells of its endings, and what its history keeps.
+use Rattle.std.proofs.Common.{◌≡◌, ℕ, ◌≤◌, Bool, true, false, List, [], ◌∷◌, refl, sym, subst, ◌++◌, arith}
+use Rattle.std.specs.Prelude.{◌↔◌, ◌&&◌, not, IsTrue, Some, slice_get}
 use Rattle.std.specs.List.{AllByRecursion}
 use Rattle.c_types.specs.Table.{basic_types}
-use Rattle.heap_model.specs.Legal.{IsLegal, own}
-use Rattle.heap_model.specs.Performed.{AccessesLaw, FoundLaw}
+use Rattle.heap_model.specs.Checks.{ChecksLaw}
+use Rattle.heap_model.specs.Legal.{IsLegal, IsWellNumbered, own}
+use Rattle.heap_model.specs.Order.{IsStamped}
+use Rattle.heap_model.specs.Performed.{AccessesLaw}
 use Rattle.heap_model.specs.declared.calls.Entry.{Entry}
 use Rattle.heap_model.specs.declared.calls.Reply.{Reply}
+use Rattle.region_heaps.specs.Entries.{StampsFrom}
 use Rattle.plain_meaning.specs.Acts.{Ends}
+use Rattle.plain_meaning.specs.Reported.{ReportedLaw}
 use Rattle.plain_meaning.specs.Run.{Run, preferred, replies_of, worker}
 use Rattle.plain_meaning.specs.declared.record.Ending.{Ending}
 use Rattle.plain_meaning.specs.declared.record.Ending.TheVariants.{Finished, Spent, Reported}
@@ -16,7 +20,9 @@ use Rattle.plain_meaning.specs.declared.record.Report.{Report}
 use Rattle.plain_meaning.specs.declared.record.Setting.{Setting}
 use Rattle.plain_meaning.specs.declared.tree.Program.{Program}
 use Rattle.reports.specs.Lines.{KnowsType}
-use Rattle.effsan_top.specs.Histories.{AccessesInside, FindsPreferred, IsHistory}
+use Rattle.effsan_top.specs.Calls.{TellsEndings}
+use Rattle.effsan_top.specs.Causes.{IsEmpty}
+use Rattle.effsan_top.specs.Histories.{IsHistory, ReportsAreShown}
 use Rattle.effsan_top.specs.Statuses.{all_finished, run_status, some_reported, some_spent, status_by}
 
 -- ---- statuses
@@ -47,30 +53,17 @@ by_spent true spent = (λ is. absurd (omega arith), λ no. absurd (cc no))
 by_spent false true = (λ is. refl, λ yes. refl)
 by_spent false false = (λ is. absurd (omega arith), λ no. absurd (cc no))
 
-is_zero : (endings : List Ending) → (run_status endings ≡ 0) ↔ IsTrue (all_finished endings)
-is_zero endings =
-    subst (λ b. (run_status endings ≡ 0) ↔ IsTrue b) (sym (none_else endings)) (by_finished (some_reported endings) (some_spent endings))
+of_endings : (endings : List Ending) → TellsEndings (run_status endings) endings
+of_endings endings = record {
+  finished = subst (λ b. (run_status endings ≡ 0) ↔ IsTrue b) (sym (none_else endings)) (by_finished (some_reported endings) (some_spent endings));
+  reported = by_reported (some_reported endings) (some_spent endings);
+  stopped = by_spent (some_reported endings) (some_spent endings);
+}
 
-is_one : (endings : List Ending) → (run_status endings ≡ 1) ↔ IsTrue (some_reported endings)
-is_one endings = by_reported (some_reported endings) (some_spent endings)
-
-is_eight : (endings : List Ending) → (run_status endings ≡ 8) ↔ IsTrue (not (some_reported endings) && some_spent endings)
-is_eight endings = by_spent (some_reported endings) (some_spent endings)
-
--- what the status of a run tells of the endings of its record
-pub record Tells (status : ℕ) (endings : List Ending) : Type 0 where
-  pub zero : (status ≡ 0) ↔ IsTrue (all_finished endings)
-  pub one : (status ≡ 1) ↔ IsTrue (some_reported endings)
-  pub eight : (status ≡ 8) ↔ IsTrue (not (some_reported endings) && some_spent endings)
-
-pub tells : (status : ℕ) (run answered : Record) → run ≡ answered → status ≡ run_status answered.endings → Tells status run.endings
+pub tells : (status : ℕ) (run answered : Record) → run ≡ answered → status ≡ run_status answered.endings → TellsEndings status run.endings
 tells status run answered same is =
     let here : status ≡ run_status run.endings = subst (λ (r : Record). status ≡ run_status r.endings) (sym same) is in
-    record {
-      zero = subst (λ (n : ℕ). (n ≡ 0) ↔ IsTrue (all_finished run.endings)) (sym here) (is_zero run.endings);
-      one = subst (λ (n : ℕ). (n ≡ 1) ↔ IsTrue (some_reported run.endings)) (sym here) (is_one run.endings);
-      eight = subst (λ (n : ℕ). (n ≡ 8) ↔ IsTrue (not (some_reported run.endings) && some_spent run.endings)) (sym here) (is_eight run.endings);
-    }
+    subst (λ (n : ℕ). TellsEndings n run.endings) (sym here) (of_endings run.endings)
 
 -- ---- types of reports
 
@@ -95,18 +88,47 @@ knows_types law program setting run r =
 
 -- ---- histories
 
-pub finds : FoundLaw → (history : List Entry) → IsLegal preferred history → FindsPreferred history
-finds law history legal before later e word want reach is =
-    law preferred before later e word want reach (subst (λ h. IsLegal preferred h) is legal)
+-- a history that the heap may give, with its numbers and stamps
+pub is_history : ChecksLaw → AccessesLaw → (history : List Entry) → IsLegal preferred history → IsWellNumbered history → IsStamped history
+    → StampsFrom 1 history → IsHistory history
+is_history checks accesses history legal numbered stamped stamps = record {
+  legal = legal;
+  numbered = numbered;
+  stamped = stamped;
+  stamps = stamps;
+  checks = λ before later e word want is. checks preferred before later e word want (subst (λ h. IsLegal preferred h) is legal);
+  accesses = λ before later e at is. accesses preferred before later e at (subst (λ h. IsLegal preferred h) is legal);
+}
 
-pub inside : AccessesLaw → (history : List Entry) → IsLegal preferred history → AccessesInside history
-inside law history legal before later e at is =
-    law preferred before later e at (subst (λ h. IsLegal preferred h) is legal)
+pub run_history : ChecksLaw → AccessesLaw → (program : Program) (setting : Setting) (run : Record) → Run program setting run
+    → StampsFrom 1 run.history.entries → IsHistory run.history.entries
+run_history checks accesses program setting run r stamps =
+    is_history checks accesses run.history.entries r.legal r.numbered r.stamped stamps
 
-pub no_history : IsHistory []
+pub run_reports : ReportedLaw → (program : Program) (setting : Setting) (run : Record) → Run program setting run → ReportsAreShown run
+run_reports law program setting run r worker report is = law program setting run worker report r is
+
+-- the record of no run
+nothing_before : (before later : List Entry) (e : Entry) → [] ≡ before ++ e ∷ later → ⊥
+nothing_before [] later e is = absurd cc
+nothing_before (first ∷ before) later e is = absurd cc
+
+no_history : IsHistory []
 no_history = record {
   legal = tt;
   numbered = λ w. tt;
   stamped = record { workers = λ w. tt; regions = λ r. tt; order = tt };
   stamps = tt;
+  checks = λ before later e word want is. absurd (nothing_before before later e is);
+  accesses = λ before later e at is. absurd (nothing_before before later e is);
 }
+
+pub empty_history : (run : Record) → IsEmpty run → IsHistory run.history.entries
+empty_history run e = subst IsHistory (sym e.history) no_history
+
+none_there : (endings : List Ending) (worker : ℕ) (ending : Ending) → endings ≡ [] → slice_get endings worker ≡ Some ending → ⊥
+none_there [] worker ending e is = absurd cc
+none_there (first ∷ endings) worker ending e is = absurd cc
+
+pub empty_reports : (run : Record) → IsEmpty run → ReportsAreShown run
+empty_reports run e worker report is = absurd (none_there run.endings worker (Reported report) e.endings is)

@@ -1,4 +1,6 @@
-pub mod Outcomes
-pub mod Endings
-pub mod Pieces
-pub mod Readings
+mod Pieces
+mod TextsExist
+mod Reading
+mod OneOrOther
+mod Endings
+mod Outcomes

@@ -1,55 +1,159 @@
--- What a refusal, or a run, says of the status.
-use Rattle.std.proofs.Common.{◌≡◌, ℕ, ◌≤◌, ◌⊎◌, inl, inr, Bool, true, false, List, [], ◌∷◌, ◌++◌, length, Option, Some, None, refl, sym, ap, subst, ◌∙◌, arith}
-use Rattle.std.specs.Prelude.{IfSome}
+-- What a run, or the cause that there is none, says of the status.
+use Rattle.std.proofs.Common.{◌≡◌, ℕ, ◌+◌, ◌<◌, ◌≤◌, ◌⊎◌, inl, inr, zero, suc, Bool, true, false, List, [], ◌∷◌, length, drop, Option, Some, None, refl, sym, ap, subst, ◌∙◌, arith}
+use Rattle.std.specs.Prelude.{IfSome, slice_get}
 use Rattle.std.proofs.lemmas.Bool.{cases_lt}
 use Rattle.plain_meaning.specs.declared.record.Ending.{Ending}
 use Rattle.plain_meaning.specs.declared.record.Record.{Record}
 use Rattle.plain_meaning.specs.declared.tree.Program.{Program}
-use Rattle.plain_meaning.specs.Names.{HasName, IsEntry}
-use Rattle.heap_model.specs.declared.calls.Call.{Call}
-use Rattle.heap_model.specs.declared.calls.Reply.{Reply}
-use Rattle.heap_model.specs.Legal.{own}
-use Rattle.plain_meaning.specs.Acts.{Acts, Ends, Extends, Progress, feed}
-use Rattle.plain_meaning.specs.Run.{replies_of, worker, worker_acts}
-use Rattle.effs_io.specs.Streams.{max_text}
-use Rattle.effsan_top.specs.Words.{Words, entry_of}
-use Rattle.effsan_top.specs.declared.faults.TextFault.{TextFault}
-use Rattle.effsan_top.specs.Lines as line
-use Rattle.effsan_top.specs.Lines.{status_of}
-use Rattle.effsan_top.specs.Statuses.{Exactly, is_answer, is_run, is_status, run_status, some_reported, some_spent, status_by}
-use Rattle.effsan_top.specs.Causes.{IsFaulty as IsFaultyText}
-use Rattle.effsan_top.specs.Causes.{IsTooLarge, Accepts, LacksEntry, IsWithoutRun, EndsAlone, HasRun, HasCause, AnswersAccepted, AnswersAlone, setting_of}
-use Rattle.effsan_top.specs.Answers.{RunsText, LacksName, IsFaulty, HasProgramCause, HasTextCause, OfRead, HasReadCause, HasNoRunFor, RunsFor}
-use Rattle.effsan_top.specs.Refusals.{cause_of}
-use Rattle.effsan_top.specs.Errors.{of_program}
+use Rattle.plain_meaning.specs.Names.{IsEntry, HasNone}
+use Rattle.effs_io.specs.Streams.{max_text, Gave, GaveSome}
+use Rattle.effs_io.specs.declared.transfer.ReadError.{ReadError}
+use Rattle.effs_io.specs.declared.transfer.ReadError.TheVariants as reading
+use Rattle.effs_words.specs.Options.{watch_places}
+use Rattle.effs_words.specs.Words.{Words as Ask, BadWord, IsMemory, HasCause as Refused}
+use Rattle.effs_words.specs.declared.command.Command.{Command}
+use Rattle.effs_words.specs.declared.command.Command.TheVariants as command
+use Rattle.effs_words.specs.declared.command.RunWords.{RunWords}
+use Rattle.effs_words.specs.declared.error.WordError.{WordError}
+use Rattle.effs_words.specs.declared.error.WordError.TheVariants as word
+use Rattle.effsan_top.specs.declared.faults.Fault.{Fault}
 use Rattle.effsan_top.specs.declared.program.ProgramError.{ProgramError}
 use Rattle.effsan_top.specs.declared.program.ProgramError.TheVariants as error
+use Rattle.effsan_top.specs.declared.refusal.Refusal.{Refusal}
+use Rattle.effsan_top.specs.declared.refusal.Refusal.TheVariants as r
+use Rattle.effsan_top.specs.declared.served.SoloPlay.{SoloPlay}
+use Rattle.effsan_top.specs.Statuses.{is_answer, is_run, is_read_whole, is_status, run_status, some_reported, some_spent, status_by}
+use Rattle.effsan_top.specs.Faults.{IsAtFault}
+use Rattle.effsan_top.specs.Programs.{IsProgram, OneProgramLaw, NeverBothLaw}
+use Rattle.effsan_top.specs.Served.{Words, AskSolo, AreRefused, IsUnserved, bad_word, unserved, unknown_watch, play_not_yet, solo_words, first_watch}
+use Rattle.effsan_top.specs.Lines.{status_of}
+use Rattle.effsan_top.specs.Errors.{of_program, of_read, of_words}
+use Rattle.effsan_top.specs.Causes.{IsTold, IsGiven, IsTooLarge, HasFault, HasRun, NamesNone, HasCause}
+use Rattle.effsan_top.specs.Calls.{JudgesWords, AnswersText, IsWithoutRun, IsAnswered, Plays, TellsEndings}
+use Rattle.effsan_top.specs.Steps.{RunsText, RunsWords, HasProgramCause, HasTextCause, HasWordsCause}
 
--- What the statuses that have a cause in the text say of this one.
-pub record Told (name text : List ℕ) (status : ℕ) : Type 0 where
-  pub too_large : Exactly 7 status (IsTooLarge text)
-  pub refused : Exactly 3 status (IsWithoutRun name text)
-  pub accepted : AnswersAccepted status name text
-  pub alone : AnswersAlone status name text
+-- ---- causes, step by step
 
--- neither the status nor its cause is there
-apart : (expected status : ℕ) (C : Type 0) → (status ≡ expected → ⊥) → (C → ⊥) → Exactly expected status C
-apart expected status C other none = (λ is. absurd (other is), λ has. absurd (none has))
+pub program_cause : (name text : List ℕ) (e : ProgramError) → HasProgramCause text e → HasTextCause name text (of_program e)
+program_cause name text error.Memory h = tt
+program_cause name text (error.Faulty fault) h = h
 
--- a read fault, or out of memory, in the place of any other
-in_place : (name text : List ℕ) (status : ℕ) → (status ≡ 4) ⊎ (status ≡ 6) → Told name text status
-in_place name text status (inl is) = record {
-  too_large = (λ e. absurd (omega arith), λ _. inr (inl is));
-  refused = (λ e. absurd (omega arith), λ _. inr (inl is));
-  accepted = λ program entry a. inr (inr (inl is));
-  alone = λ ending e. inr (inr (inl is));
-}
-in_place name text status (inr is) = record {
-  too_large = (λ e. absurd (omega arith), λ _. inr (inr is));
-  refused = (λ e. absurd (omega arith), λ _. inr (inr is));
-  accepted = λ program entry a. inr (inr (inr is));
-  alone = λ ending e. inr (inr (inr is));
-}
+module _ (words : Words) (left : Option (List ℕ)) (read : Type 0) where
+  pub words_cause : (refusal : Refusal) → HasWordsCause words refusal → HasCause words left read ⊥ refusal
+  words_cause (r.Words e) h = h
+  words_cause r.NotYet h = h
+  words_cause r.OutOfMemory h = h
+  words_cause r.ReadFault h = absurd h
+  words_cause r.TooLarge h = absurd h
+  words_cause (r.Faulty fault) h = absurd h
+  words_cause (r.NotFound name) h = absurd h
+  words_cause r.WriteFault h = absurd h
+
+  module _ (play : SoloPlay) (asked : AskSolo words play) where
+    pub text_cause : (text : List ℕ) → IsGiven left text → (refusal : Refusal) → HasTextCause play.entry text refusal →
+        HasCause words left read ⊥ refusal
+    text_cause text given (r.Faulty fault) h = ((play, asked), record { text = text; given = given; is = h })
+    text_cause text given (r.NotFound name) h = record {
+      play = play;
+      asked = asked;
+      is = h.0;
+      lacks = record { text = text; given = given; program = h.1.program; read = h.1.read; missing = h.1.missing };
+    }
+    text_cause text given r.OutOfMemory h = (command.Play (solo_words play) [], asked)
+    text_cause text given (r.Words e) h = absurd h
+    text_cause text given r.NotYet h = absurd h
+    text_cause text given r.ReadFault h = absurd h
+    text_cause text given r.TooLarge h = absurd h
+    text_cause text given r.WriteFault h = absurd h
+
+    pub text_run : (text : List ℕ) → IsGiven left text → (run : Record) → RunsText play text run → RunsWords words left run
+    text_run text given run h = record {
+      play = play;
+      asked = asked;
+      has = record { text = text; given = given; program = h.program; read = h.read; entry = h.entry; named = h.named; runs = h.runs };
+    }
+
+    -- there are lists that are longer than this
+    long : (n : ℕ) → (text : List ℕ) × (n < length text)
+    long zero = (0 ∷ [], omega arith)
+    long (suc n) = (let more = long n in (0 ∷ more.0, omega (arith, more.1)))
+
+    over : (before after : Option (List ℕ)) → Gave (max_text + 1) before after → IsTooLarge before
+    over None after h = (let some = long max_text in record { text = some.0; told = tt; over = some.1 })
+    over (Some text) after h = record { text = text; told = refl; over = (let most = h.0 in omega (arith, most)) }
+
+    pub read_cause : (after : Option (List ℕ)) (e : ReadError) → (e ≡ reading.Fault → read) → (e ≡ reading.TooLarge → Gave (max_text + 1) left after) →
+        HasCause words left read ⊥ (of_read e)
+    read_cause after (reading.Memory e) fault large = (command.Play (solo_words play) [], asked)
+    read_cause after reading.Fault fault large = ((play, asked), fault refl)
+    read_cause after reading.TooLarge fault large = ((play, asked), over left after (large refl))
+
+  -- what was written gives no cause before anything was
+  pub with_written : (written : Type 0) (refusal : Refusal) → HasCause words left read ⊥ refusal → HasCause words left read written refusal
+  with_written written (r.Words e) h = h
+  with_written written r.NotYet h = h
+  with_written written r.OutOfMemory h = h
+  with_written written r.ReadFault h = h
+  with_written written r.TooLarge h = h
+  with_written written (r.Faulty fault) h = h
+  with_written written (r.NotFound name) h = h
+  with_written written r.WriteFault h = absurd h.1
+
+-- ---- the laws
+
+pub record Laws : Type 0 where
+  pub apart : (words : Words) (command : Command) (e : WordError) → Ask words command → BadWord words e → ⊥
+  pub one_command : (words : Words) (command other : Command) → Ask words command → Ask words other → other ≡ command
+  pub watches : (words : Words) (run : RunWords) (schedule : List ℕ) → Ask words (command.Play run schedule) →
+      length (watch_places true (drop 1 words)) ≡ length run.watch
+  pub one_program : OneProgramLaw
+  pub never_both : NeverBothLaw
+
+none_first : {A : Type 0} (list : List A) (x : A) → length list ≡ 0 → slice_get list 0 ≡ Some x → ⊥
+none_first [] x empty is = absurd cc
+none_first (first ∷ list) x empty is = absurd (omega (arith, empty))
+
+module _ (law : Laws) (words : Words) (play : SoloPlay) (asked : AskSolo words play) where
+  -- what is served is not refused
+  solo_served : (refusal : Refusal) → IsUnserved words (command.Play (solo_words play) []) refusal → ⊥
+  solo_served refusal (unknown_watch {n = n} is) = none_first (watch_places true (drop 1 words)) n (law.watches words (solo_words play) [] asked) is
+  solo_served refusal (play_not_yet none apart) = apart play refl refl
+
+  not_unserved : (command : Command) (refusal : Refusal) → Ask words command → IsUnserved words command refusal → ⊥
+  not_unserved command refusal ask is =
+      solo_served refusal (subst (λ c. IsUnserved words c refusal) (law.one_command words _ command asked ask) is)
+
+  not_bad : (e : WordError) → BadWord words e → ⊥
+  not_bad e bad = law.apart words _ e asked bad
+
+  not_refused : (refusal : Refusal) → AreRefused words refusal → ⊥
+  not_refused refusal (bad_word {e = e} bad) = not_bad e bad
+  not_refused refusal (unserved {command = command} ask is) = not_unserved command refusal ask is
+
+  -- words that are served, at any status but that of refused words
+  pub served_words : (status : ℕ) → (status ≡ 2 → ⊥) → JudgesWords words status
+  served_words status other = record {
+    bad = λ e bad. absurd (not_bad e bad);
+    unserved = λ command refusal ask is. absurd (not_unserved command refusal ask is);
+    refused = λ is. absurd (other is);
+    served = inr (play, asked);
+  }
+
+  abbrev entries_in : Command → List (List ℕ)
+  entries_in (command.Play run schedule) = run.entries
+  entries_in other = []
+
+  abbrev turns_in : Command → ℕ
+  turns_in (command.Play run schedule) = run.turns
+  turns_in other = 0
+
+  same_play : (other : SoloPlay) → AskSolo words other → other ≡ play
+  same_play other ask =
+      let e = law.one_command words (command.Play (solo_words play) []) (command.Play (solo_words other) []) asked ask in
+      let lists : other.entry ∷ [] ≡ play.entry ∷ [] = ap entries_in e in
+      let entries : other.entry ≡ play.entry = cc in
+      let turns : other.turns ≡ play.turns = ap turns_in e in
+      subst (λ x. other ≡ record { entry = x; turns = play.turns }) entries (subst (λ y. other ≡ record { entry = other.entry; turns = y }) turns refl)
 
 entry_one : (program : Program) (name : List ℕ) (a b : ℕ) → IsEntry program name a → IsEntry program name b → a ≡ b
 entry_one program name a b p q = elim (cases_lt a b) [
@@ -60,99 +164,122 @@ entry_one program name a b p q = elim (cases_lt a b) [
   ]
 ]
 
-lacking : (name text : List ℕ) (program : Program) (entry : ℕ) → LacksName name text → Accepts name text program entry → ⊥
-lacking name text program entry l a =
-    let same = l.read.only program a.read in
-    l.missing entry (subst (λ p. HasName p entry name) same a.named.named)
+told_text : (left : Option (List ℕ)) (text given : List ℕ) → left ≡ Some text → IsTold left given → given ≡ text
+told_text left text given is told = subst (λ l. IsTold l given) is told
 
--- ---- a refusal
+-- ---- no run
 
-by_refusal : (name text : List ℕ) (read : Type 0) (refusal : line.Cause) → HasReadCause name (Some text) read refusal → Told name text (status_of refusal)
-by_refusal name text read line.Words h = absurd h
-by_refusal name text read line.ReadFault h = in_place name text 4 (inl refl)
-by_refusal name text read line.TooLarge h = record {
-  too_large = (λ _. h, λ _. inl refl);
-  refused = apart 3 7 _ (λ e. omega arith) (λ r. elim r [ inl u ↦ (let fits = u.2.fits in omega arith) | inr l ↦ (let fits = l.fits in omega arith) ]);
-  accepted = λ program entry a. absurd (let fits = a.fits in omega arith);
-  alone = λ ending e. absurd (let fits = e.accepted.fits in omega arith);
-}
-by_refusal name text read (line.Faulty f l) h = record {
-  too_large = apart 7 3 _ (λ e. omega arith) (λ large. omega (arith, h.0, large));
-  refused = (λ _. inl (f, l, record { fits = h.0; fault = h.1.fault }), λ _. inl refl);
-  accepted = λ program entry a. absurd (h.1.without program a.read);
-  alone = λ ending e. absurd (h.1.without e.program e.accepted.read);
-}
-by_refusal name text read (line.NotFound missing) h = record {
-  too_large = apart 7 3 _ (λ e. omega arith) (λ large. omega (arith, h.1.0, large));
-  refused = (λ _. inr (record { fits = h.1.0; program = h.1.1.program; read = h.1.1.read.is; missing = h.1.1.missing }), λ _. inl refl);
-  accepted = λ program entry a. absurd (lacking name text program entry h.1.1 a);
-  alone = λ ending e. absurd (lacking name text e.program e.entry h.1.1 e.accepted);
-}
-by_refusal name text read line.OutOfMemory h = in_place name text 6 (inr refl)
-by_refusal name text read line.WriteFault h = absurd h
+module _ (law : Laws) (words : Words) (left : Option (List ℕ)) (read written : Type 0) where
+  pub refused_words : (refusal : Refusal) → HasCause words left read written refusal → JudgesWords words (status_of refusal)
+  refused_words (r.Words e) h = record {
+    bad = λ e bad. refl;
+    unserved = λ command refusal ask is. inl refl;
+    refused = λ is. (r.Words e, h);
+    served = inl (inl refl);
+  }
+  refused_words r.NotYet h = record {
+    bad = λ e bad. refl;
+    unserved = λ command refusal ask is. inl refl;
+    refused = λ is. (r.NotYet, h);
+    served = inl (inl refl);
+  }
+  refused_words r.OutOfMemory h = record {
+    bad = λ e bad. absurd (law.apart words h.0 e h.1 bad);
+    unserved = λ command refusal ask is. inr refl;
+    refused = λ is. absurd (omega arith);
+    served = inl (inr refl);
+  }
+  refused_words r.ReadFault h = served_words law words h.0.0 h.0.1 4 (λ is. omega arith)
+  refused_words r.TooLarge h = served_words law words h.0.0 h.0.1 7 (λ is. omega arith)
+  refused_words (r.Faulty fault) h = served_words law words h.0.0 h.0.1 3 (λ is. omega arith)
+  refused_words (r.NotFound name) h = served_words law words h.play h.asked 3 (λ is. omega arith)
+  refused_words r.WriteFault h = served_words law words h.0.0 h.0.1 5 (λ is. omega arith)
 
--- the words of a refusal that is not of the words
-asked_by : (words : Words) (left : Option (List ℕ)) (read : Type 0) (refusal : line.Cause) → HasNoRunFor words left read refusal →
-    ((entry_of words ≡ None) × (refusal ≡ line.Words)) ⊎ ((name : List ℕ) × (entry_of words ≡ Some name) × HasReadCause name left read refusal)
-asked_by words left read line.Words h = inl (h, refl)
-asked_by words left read line.ReadFault h = inr h
-asked_by words left read line.TooLarge h = inr h
-asked_by words left read (line.Faulty f l) h = inr h
-asked_by words left read (line.NotFound missing) h = inr h
-asked_by words left read line.OutOfMemory h = inr h
-asked_by words left read line.WriteFault h = inr h
+  module _ (play : SoloPlay) (asked : AskSolo words play) (text : List ℕ) (told : left ≡ Some text) where
+    -- a read fault, or the end of memory, in place of any other
+    in_place : (status : ℕ) → (status ≡ 4) ⊎ (status ≡ 6) → AnswersText play text status
+    in_place status is = record {
+      too_large = λ over. inr is;
+      refused = λ fits none. inr is;
+      accepted = λ program entry fits p named. inr (inr is);
+    }
 
-pub of_refusal : (words : Words) (left : Option (List ℕ)) (read : Type 0) (refusal : line.Cause) → HasNoRunFor words left read refusal →
-    (name text : List ℕ) → entry_of words ≡ Some name → left ≡ Some text → Told name text (status_of refusal)
-of_refusal words left read refusal h name text asked told = elim (asked_by words left read refusal h) [
-  | inl none ↦ absurd (let e = none.0 in cc)
-  | inr some ↦ (
-      let same : some.0 ≡ name = (let e = some.1 in cc) in
-      by_refusal name text read refusal (subst (λ l. HasReadCause name l read refusal) told (subst (λ n. HasReadCause n left read refusal) same some.2)))
-]
+    large : IsTooLarge left → max_text < length text
+    large h = subst (λ t. max_text < length t) (told_text left text h.text told h.told) h.over
 
--- the status of a refusal before anything was written
-pub record IsRefusal (words : Words) (status : ℕ) : Type 0 where
-  pub words_only : status ≡ 2 → entry_of words ≡ None
-  pub words_first : entry_of words ≡ None → status ≡ 2
-  pub answer : is_answer status ≡ false
-  pub run : is_run status ≡ false
-  pub known : is_status status ≡ true
-  pub unwritten : status ≡ 5 → ⊥
+    fits_of : (given : List ℕ) → IsGiven left given → length text ≤ max_text
+    fits_of given h = subst (λ t. length t ≤ max_text) (told_text left text given told h.told) h.fits
 
-pub is_refusal : (words : Words) (left : Option (List ℕ)) (read : Type 0) (refusal : line.Cause) → HasNoRunFor words left read refusal → IsRefusal words (status_of refusal)
-is_refusal words left read line.Words h =
-    record { words_only = λ _. h; words_first = λ _. refl; answer = refl; run = refl; known = refl; unwritten = λ e. omega arith }
-is_refusal words left read line.ReadFault h =
-    record { words_only = λ e. absurd (omega arith); words_first = λ none. absurd (let some = h.1 in cc); answer = refl; run = refl; known = refl; unwritten = λ e. omega arith }
-is_refusal words left read line.TooLarge h =
-    record { words_only = λ e. absurd (omega arith); words_first = λ none. absurd (let some = h.1 in cc); answer = refl; run = refl; known = refl; unwritten = λ e. omega arith }
-is_refusal words left read (line.Faulty f l) h =
-    record { words_only = λ e. absurd (omega arith); words_first = λ none. absurd (let some = h.1 in cc); answer = refl; run = refl; known = refl; unwritten = λ e. omega arith }
-is_refusal words left read (line.NotFound missing) h =
-    record { words_only = λ e. absurd (omega arith); words_first = λ none. absurd (let some = h.1 in cc); answer = refl; run = refl; known = refl; unwritten = λ e. omega arith }
-is_refusal words left read line.OutOfMemory h =
-    record { words_only = λ e. absurd (omega arith); words_first = λ none. absurd (let some = h.1 in cc); answer = refl; run = refl; known = refl; unwritten = λ e. omega arith }
-is_refusal words left read line.WriteFault h = absurd h.2
+    fault_of : (fault : Fault) → HasFault left fault → IsAtFault text fault
+    fault_of fault h = subst (λ t. IsAtFault t fault) (told_text left text h.text told h.given.told) h.is
 
--- its cause, as the public clause says it
-faulty : (f : TextFault) (l : ℕ) (left : Option (List ℕ)) → OfRead left (λ text. IsFaulty text f l) → IfSome left (λ text. IsFaultyText text f l)
-faulty f l None h = tt
-faulty f l (Some text) h = record { fits = h.0; fault = h.1.fault }
+    none_accepted : (name : List ℕ) → NamesNone words left name → (program : Program) (entry : ℕ) → IsProgram text program → IsEntry program play.entry entry → ⊥
+    none_accepted name h program entry p named =
+        let l = h.lacks in
+        let here : IsProgram text l.program = subst (λ t. IsProgram t l.program) (told_text left text l.text told l.given.told) l.read in
+        let same : program ≡ l.program = law.one_program text program l.program p here in
+        let plays : h.play ≡ play = same_play law words play asked h.play h.asked in
+        let missing : HasNone l.program play.entry = subst (λ (q : SoloPlay). HasNone l.program q.entry) plays l.missing in
+        let there : IsEntry l.program play.entry entry = subst (λ q. IsEntry q play.entry entry) same named in
+        missing entry there.named
 
-lacks : (name : List ℕ) (left : Option (List ℕ)) → OfRead left (LacksName name) → IfSome left (LacksEntry name)
-lacks name None h = tt
-lacks name (Some text) h = record { fits = h.0; program = h.1.program; read = h.1.read.is; missing = h.1.missing }
+    lacking : (name : List ℕ) → NamesNone words left name → IsWithoutRun play.entry text
+    lacking name h =
+        let l = h.lacks in
+        let here : IsProgram text l.program = subst (λ t. IsProgram t l.program) (told_text left text l.text told l.given.told) l.read in
+        let plays : h.play ≡ play = same_play law words play asked h.play h.asked in
+        inr (l.program, here, subst (λ (q : SoloPlay). HasNone l.program q.entry) plays l.missing)
 
-pub has_cause : (words : Words) (left : Option (List ℕ)) (read written : Type 0) (refusal : line.Cause) → HasNoRunFor words left read refusal → HasCause words left read written refusal
-has_cause words left read written line.Words h = h
-has_cause words left read written line.ReadFault h = h.2
-has_cause words left read written line.TooLarge h = h.2
-has_cause words left read written (line.Faulty f l) h = faulty f l left h.2
-has_cause words left read written (line.NotFound missing) h =
-    (h.1 ∙ ap (λ n. Some n) (sym h.2.0), subst (λ n. IfSome left (LacksEntry n)) (sym h.2.0) (lacks h.0 left h.2.1))
-has_cause words left read written line.OutOfMemory h = tt
-has_cause words left read written line.WriteFault h = absurd h.2
+    pub refused_text : (refusal : Refusal) → HasCause words left read written refusal → (refusal ≡ r.WriteFault → ⊥) →
+        AnswersText play text (status_of refusal)
+    refused_text (r.Words e) h early = absurd (not_refused law words play asked (r.Words e) h)
+    refused_text r.NotYet h early = absurd (not_refused law words play asked r.NotYet h)
+    refused_text r.OutOfMemory h early = in_place 6 (inr refl)
+    refused_text r.ReadFault h early = in_place 4 (inl refl)
+    refused_text r.TooLarge h early = record {
+      too_large = λ over. inl refl;
+      refused = λ fits none. absurd (let over = large h.1 in omega (arith, fits, over));
+      accepted = λ program entry fits p named. absurd (let over = large h.1 in omega (arith, fits, over));
+    }
+    refused_text (r.Faulty fault) h early = record {
+      too_large = λ over. absurd (let fits = fits_of h.1.text h.1.given in omega (arith, fits, over));
+      refused = λ fits none. inl refl;
+      accepted = λ program entry fits p named. absurd (law.never_both text program fault p (fault_of fault h.1));
+    }
+    refused_text (r.NotFound name) h early = record {
+      too_large = λ over. absurd (let fits = fits_of h.lacks.text h.lacks.given in omega (arith, fits, over));
+      refused = λ fits none. inl refl;
+      accepted = λ program entry fits p named. absurd (none_accepted name h program entry p named);
+    }
+    refused_text r.WriteFault h early = absurd (early refl)
+
+  pub refused_plays : (refusal : Refusal) → HasCause words left read written refusal → (refusal ≡ r.WriteFault → ⊥) → (run : Record) →
+      (play : SoloPlay) → AskSolo words play → Plays play left (status_of refusal) run
+  refused_plays refusal h early run play asked = record {
+    ran = λ is. absurd (no_run refusal early is);
+    endings = λ is. absurd (no_answer refusal is);
+    text = λ text told. refused_text play asked text told refusal h early;
+  }
+    where
+      no_run : (refusal : Refusal) → (refusal ≡ r.WriteFault → ⊥) → is_run (status_of refusal) ≡ true → ⊥
+      no_run (r.Words e) early is = absurd cc
+      no_run r.NotYet early is = absurd cc
+      no_run r.OutOfMemory early is = absurd cc
+      no_run r.ReadFault early is = absurd cc
+      no_run r.TooLarge early is = absurd cc
+      no_run (r.Faulty fault) early is = absurd cc
+      no_run (r.NotFound name) early is = absurd cc
+      no_run r.WriteFault early is = absurd (early refl)
+
+      no_answer : (refusal : Refusal) → is_answer (status_of refusal) ≡ true → ⊥
+      no_answer (r.Words e) is = absurd cc
+      no_answer r.NotYet is = absurd cc
+      no_answer r.OutOfMemory is = absurd cc
+      no_answer r.ReadFault is = absurd cc
+      no_answer r.TooLarge is = absurd cc
+      no_answer (r.Faulty fault) is = absurd cc
+      no_answer (r.NotFound name) is = absurd cc
+      no_answer r.WriteFault is = absurd cc
 
 -- ---- a run
 
@@ -164,144 +291,234 @@ statuses_by false false = inl refl
 pub run_statuses : (endings : List Ending) → (run_status endings ≡ 0) ⊎ ((run_status endings ≡ 1) ⊎ (run_status endings ≡ 8))
 run_statuses endings = statuses_by (some_reported endings) (some_spent endings)
 
-pub is_answered : (endings : List Ending) → is_answer (run_status endings) ≡ true
-is_answered endings = elim (run_statuses endings) [
-  | inl zero ↦ ap is_answer zero
-  | inr other ↦ elim other [ inl one ↦ ap is_answer one | inr eight ↦ ap is_answer eight ]
+pub not_five : (endings : List Ending) → run_status endings ≡ 5 → ⊥
+not_five endings is = elim (run_statuses endings) [
+  | inl finished ↦ omega arith
+  | inr other ↦ elim other [ inl reported ↦ omega arith | inr stopped ↦ omega arith ]
 ]
 
--- more replies only extend what a worker does
-abbrev pub PrefixLaw : Type 0
-PrefixLaw = (acts : Acts Call Reply) (replies more : List Reply) → Extends (feed replies acts) (feed (replies ++ more) acts)
-
-module _ (name text : List ℕ) (run : Record) (fits : length text ≤ max_text) (r : RunsText name text run) where
-  pub has_run : HasRun name text run
-  has_run = record { program = r.program; entry = r.entry; accepted = record { fits = fits; read = r.read.is; named = r.named }; runs = r.runs }
-
-  -- a worker that ends without the heap ends so in each run
-  same_end : PrefixLaw → (ending : Ending) → (worker r.program (setting_of r.entry) []).end ≡ Ends ending → ending ≡ r.runs.ending
-  same_end law ending ended =
-      let same = (law (worker_acts r.program (setting_of r.entry)) [] (replies_of (own run.history.entries 1))).ended ending ended in
-      let both : Ends ending ≡ Ends r.runs.ending = sym ended ∙ ap (λ (p : Progress Call). p.end) (sym same) ∙ r.runs.worked.ended in
-      cc
-
-  ended_as : PrefixLaw → (ending : Ending) → EndsAlone name text ending → ending ≡ r.runs.ending
-  ended_as law ending e =
-      let programs : e.program ≡ r.program = r.read.only e.program e.accepted.read in
-      let named : IsEntry r.program name e.entry = subst (λ p. IsEntry p name e.entry) programs e.accepted.named in
-      let entries : e.entry ≡ r.entry = entry_one r.program name e.entry r.entry named r.named in
-      let here : (worker r.program (setting_of e.entry) []).end ≡ Ends ending = subst (λ p. (worker p (setting_of e.entry) []).end ≡ Ends ending) programs e.ended in
-      same_end law ending (subst (λ n. (worker r.program (setting_of n) []).end ≡ Ends ending) entries here)
-
-  not_refused : IsWithoutRun name text → ⊥
-  not_refused (inl u) = r.read.sound u.0 u.1 u.2.fault
-  not_refused (inr l) =
-      let same = r.read.only l.program l.read in
-      l.missing r.entry (subst (λ p. HasName p r.entry name) (sym same) r.named.named)
-
-  not_large : IsTooLarge text → ⊥
-  not_large large = omega (arith, fits, large)
-
-  status_is : run_status run.endings ≡ run_status (r.runs.ending ∷ [])
-  status_is = ap run_status r.runs.endings
-
-  known : (status : ℕ) → (status ≡ run_status run.endings) ⊎ (status ≡ 5) → (status ≡ 0) ⊎ ((status ≡ 1) ⊎ ((status ≡ 8) ⊎ (status ≡ 5)))
-  known status (inl is) = elim (run_statuses run.endings) [
-    | inl zero ↦ inl (is ∙ zero)
-    | inr other ↦ elim other [ inl one ↦ inr (inl (is ∙ one)) | inr eight ↦ inr (inr (inl (is ∙ eight))) ]
-  ]
-  known status (inr five) = inr (inr (inr five))
-
-  other_than : (expected status : ℕ) → (status ≡ 0) ⊎ ((status ≡ 1) ⊎ ((status ≡ 8) ⊎ (status ≡ 5))) → (expected ≡ 7) ⊎ (expected ≡ 3) → status ≡ expected → ⊥
-  other_than expected status one of is = omega arith
-
-  pub by_run : PrefixLaw → (status : ℕ) → (status ≡ run_status run.endings) ⊎ (status ≡ 5) → Told name text status
-  by_run law status is = record {
-    too_large = apart 7 status _ (other_than 7 status (known status is) (inl refl)) not_large;
-    refused = apart 3 status _ (other_than 3 status (known status is) (inr refl)) not_refused;
-    accepted = λ program entry a. elim is [ inl answered ↦ inl (ap is_answer answered ∙ is_answered run.endings) | inr five ↦ inr (inl five) ];
-    alone = λ ending e. elim is [
-      | inl answered ↦ inl (answered ∙ status_is ∙ ap (λ (x : Ending). run_status (x ∷ [])) (sym (ended_as law ending e)))
-      | inr five ↦ inr (inl five)
-    ];
-  }
-
-pub of_run : PrefixLaw → (words : Words) (left : Option (List ℕ)) (run : Record) (status : ℕ) → RunsFor words left run → (status ≡ run_status run.endings) ⊎ (status ≡ 5) →
-    (name text : List ℕ) → entry_of words ≡ Some name → left ≡ Some text → Told name text status × HasRun name text run
-of_run law words left run status r is name text asked told =
-    let same : r.name ≡ name = (let e = r.asked in cc) in
-    let here : (length text ≤ max_text) × RunsText r.name text run = subst (λ l. OfRead l (λ t. RunsText r.name t run)) told r.runs in
-    let runs : RunsText name text run = subst (λ n. RunsText n text run) same here.1 in
-    (by_run name text run here.0 runs law status is, has_run name text run here.0 runs)
-
--- what the status says by itself
-pub record IsRun (words : Words) (status answered : ℕ) : Type 0 where
-  pub words_only : status ≡ 2 → entry_of words ≡ None
-  pub words_first : entry_of words ≡ None → status ≡ 2
-  pub unread : status ≡ 4 → ⊥
+-- what the status of a run is, whether or not it was written whole
+pub record OfRun (endings : List Ending) (status : ℕ) : Type 0 where
   pub run : is_run status ≡ true
+  pub whole : is_read_whole status ≡ true
   pub known : is_status status ≡ true
-  pub answers : is_answer status ≡ true → status ≡ answered
-  pub fault : is_answer status ≡ false → status ≡ 5
+  pub words : status ≡ 2 → ⊥
+  pub answer : is_answer status ≡ true → status ≡ run_status endings
+  pub cut : is_answer status ≡ false → status ≡ 5
+  pub large : status ≡ 7 → ⊥
+  pub refused : status ≡ 3 → ⊥
+  pub answered : IsAnswered status
 
-answered_run : (words : Words) (left : Option (List ℕ)) (run : Record) (status : ℕ) → RunsFor words left run → status ≡ run_status run.endings →
-    (is_run status ≡ true) × (is_status status ≡ true) × (status ≡ 2 → ⊥) × (status ≡ 4 → ⊥)
-answered_run words left run status r is = elim (run_statuses run.endings) [
-  | inl zero ↦ (let e : status ≡ 0 = is ∙ zero in (ap is_run e, ap is_status e, λ two. omega arith, λ four. omega arith))
-  | inr other ↦ elim other [
-    | inl one ↦ (let e : status ≡ 1 = is ∙ one in (ap is_run e, ap is_status e, λ two. omega arith, λ four. omega arith))
-    | inr eight ↦ (let e : status ≡ 8 = is ∙ eight in (ap is_run e, ap is_status e, λ two. omega arith, λ four. omega arith))
-  ]
-]
+at : (endings : List Ending) (n : ℕ) → run_status endings ≡ n → (n ≡ 0) ⊎ ((n ≡ 1) ⊎ (n ≡ 8)) → OfRun endings n
+at endings n is (inl e) = rw e (record {
+  run = refl;
+  whole = refl;
+  known = refl;
+  words = λ e. omega arith;
+  answer = λ a. sym (is ∙ e);
+  cut = λ a. absurd cc;
+  large = λ e. omega arith;
+  refused = λ e. omega arith;
+  answered = inl refl;
+})
+at endings n is (inr (inl e)) = rw e (record {
+  run = refl;
+  whole = refl;
+  known = refl;
+  words = λ e. omega arith;
+  answer = λ a. sym (is ∙ e);
+  cut = λ a. absurd cc;
+  large = λ e. omega arith;
+  refused = λ e. omega arith;
+  answered = inl refl;
+})
+at endings n is (inr (inr e)) = rw e (record {
+  run = refl;
+  whole = refl;
+  known = refl;
+  words = λ e. omega arith;
+  answer = λ a. sym (is ∙ e);
+  cut = λ a. absurd cc;
+  large = λ e. omega arith;
+  refused = λ e. omega arith;
+  answered = inl refl;
+})
 
-pub is_a_run : (words : Words) (left : Option (List ℕ)) (run : Record) (status : ℕ) → RunsFor words left run → (status ≡ run_status run.endings) ⊎ (status ≡ 5) → IsRun words status (run_status run.endings)
-is_a_run words left run status r (inl is) =
-    let a = answered_run words left run status r is in
-    record {
-      words_only = λ two. absurd (a.2 two);
-      words_first = λ none. absurd (let some = r.asked in cc);
-      unread = a.3;
-      run = a.0;
-      known = a.1;
-      answers = λ _. is;
-      fault = λ no. absurd (let yes : is_answer status ≡ true = ap is_answer is ∙ is_answered run.endings in cc (yes, no));
-    }
-is_a_run words left run status r (inr five) = record {
-  words_only = λ two. absurd (omega arith);
-  words_first = λ none. absurd (let some = r.asked in cc);
-  unread = λ four. omega arith;
-  run = ap is_run five;
-  known = ap is_status five;
-  answers = λ yes. absurd (let no = ap is_answer five in cc);
-  fault = λ _. five;
+at_five : (endings : List Ending) → OfRun endings 5
+at_five endings = record {
+  run = refl;
+  whole = refl;
+  known = refl;
+  words = λ e. omega arith;
+  answer = λ a. absurd cc;
+  cut = λ a. refl;
+  large = λ e. omega arith;
+  refused = λ e. omega arith;
+  answered = inr (inl refl);
 }
 
--- ---- a text that was read whole
+pub of_run : (endings : List Ending) (status : ℕ) → (status ≡ run_status endings) ⊎ (status ≡ 5) → OfRun endings status
+of_run endings status (inl is) = subst (OfRun endings) (sym is) (at endings (run_status endings) refl (run_statuses endings))
+of_run endings status (inr is) = subst (OfRun endings) (sym is) (at_five endings)
 
-of_read : (left : Option (List ℕ)) (text : List ℕ) (P : List ℕ → Type 0) → IfSome left (λ told. text ≡ told) → length text ≤ max_text → P text → OfRead left P
-of_read None text P is fits p = tt
-of_read (Some told) text P is fits p = (rw (sym is) fits, subst P is p)
+module _ (law : Laws) (words : Words) (left : Option (List ℕ)) (run : Record) (h : RunsWords words left run) where
+  pub run_words_judged : (endings : List Ending) (status : ℕ) → OfRun endings status → JudgesWords words status
+  run_words_judged endings status s = served_words law words h.play h.asked status s.words
 
-pub text_cause : (words : Words) (left : Option (List ℕ)) (read : Type 0) (name text : List ℕ) (refusal : line.Cause) → entry_of words ≡ Some name →
-    IfSome left (λ told. text ≡ told) → length text ≤ max_text → HasTextCause name text refusal → HasNoRunFor words left read refusal
-text_cause words left read name text (line.Faulty f l) asked is fits h = (name, asked, of_read left text (λ t. IsFaulty t f l) is fits h)
-text_cause words left read name text (line.NotFound missing) asked is fits h = (name, asked, (h.0, of_read left text (LacksName name) is fits h.1))
-text_cause words left read name text line.OutOfMemory asked is fits h = (name, asked, tt)
-text_cause words left read name text line.Words asked is fits h = absurd h
-text_cause words left read name text line.ReadFault asked is fits h = absurd h
-text_cause words left read name text line.TooLarge asked is fits h = absurd h
-text_cause words left read name text line.WriteFault asked is fits h = absurd h
+  module _ (play : SoloPlay) (asked : AskSolo words play) where
+    has : HasRun play left run
+    has = subst (λ p. HasRun p left run) (same_play law words play asked h.play h.asked) h.has
 
-pub text_run : (words : Words) (left : Option (List ℕ)) (name text : List ℕ) (run : Record) → entry_of words ≡ Some name →
-    IfSome left (λ told. text ≡ told) → length text ≤ max_text → RunsText name text run → RunsFor words left run
-text_run words left name text run asked is fits h = record { name = name; asked = asked; runs = of_read left text (λ t. RunsText name t run) is fits h }
+    run_text : (text : List ℕ) → left ≡ Some text → (endings : List Ending) (status : ℕ) → OfRun endings status → AnswersText play text status
+    run_text text told endings status s =
+        let same : has.text ≡ text = told_text left text has.text told has.given.told in
+        let fits : length text ≤ max_text = subst (λ t. length t ≤ max_text) same has.given.fits in
+        let read : IsProgram text has.program = subst (λ t. IsProgram t has.program) same has.read in
+        record {
+          too_large = λ over. absurd (omega (arith, fits, over));
+          refused = λ short none. absurd (without text read none);
+          accepted = λ program entry short p named. s.answered;
+        }
+      where
+        without : (text : List ℕ) → IsProgram text has.program → IsWithoutRun play.entry text → ⊥
+        without text read (inl f) = law.never_both text has.program f.0 read f.1
+        without text read (inr l) =
+            let programs : has.program ≡ l.0 = law.one_program text has.program l.0 read l.1 in
+            let there : IsEntry l.0 play.entry has.entry = subst (λ q. IsEntry q play.entry has.entry) programs has.named in
+            l.2 has.entry there.named
 
-pub program_cause : (name text : List ℕ) (e : ProgramError) → HasProgramCause text e → HasTextCause name text (cause_of (of_program e))
-program_cause name text error.Memory h = tt
-program_cause name text (error.Faulty f l) h = h
+    pub run_plays : (endings : List Ending) (status : ℕ) → OfRun endings status → (is_answer status ≡ true → TellsEndings status run.endings) →
+        Plays play left status run
+    run_plays endings status s tells = record {
+      ran = λ is. has;
+      endings = tells;
+      text = λ text told. run_text text told endings status s;
+    }
 
-pub not_five : (endings : List Ending) → run_status endings ≡ 5 → ⊥
-not_five endings five = elim (run_statuses endings) [
-  | inl zero ↦ omega arith
-  | inr other ↦ elim other [ inl one ↦ omega arith | inr eight ↦ omega arith ]
-]
+-- ---- what was read
+
+pub gave_all : (before after : Option (List ℕ)) (n : ℕ) → IfSome before (λ told. (length told ≤ n) × (after ≡ Some [])) → GaveSome n before after
+gave_all None after n h = (0, omega arith, tt, tt)
+gave_all (Some told) after n h = (length told, h.0, omega arith, rw h.1 (ap (λ l. Some l) (sym (all_dropped told))))
+  where
+    all_dropped : (list : List ℕ) → drop (length list) list ≡ []
+    all_dropped [] = refl
+    all_dropped (x ∷ list) = all_dropped list
+
+pub gave_none : (before after : Option (List ℕ)) (n : ℕ) → after ≡ before → GaveSome n before after
+gave_none None after n is = (0, omega arith, tt, tt)
+gave_none (Some told) after n is = (0, omega arith, omega arith, is)
+
+-- the source was read to its end
+pub read_whole : (before after : Option (List ℕ)) (bytes : List ℕ) → IfSome before (λ told. bytes ≡ told) → IfSome before (λ told. after ≡ Some []) →
+    length bytes ≤ max_text → GaveSome (max_text + 1) before after
+read_whole None after bytes all end small = gave_all None after (max_text + 1) tt
+read_whole (Some told) after bytes all end small =
+    gave_all (Some told) after (max_text + 1) (let few : length told ≤ max_text = subst (λ l. length l ≤ max_text) all small in omega (arith, few), end)
+
+-- ---- statuses of refusals
+
+pub text_status : (name text : List ℕ) (refusal : Refusal) → HasTextCause name text refusal → status_of refusal ≡ 2 → ⊥
+text_status name text (r.Faulty fault) h is = absurd (omega arith)
+text_status name text (r.NotFound missing) h is = absurd (omega arith)
+text_status name text r.OutOfMemory h is = absurd (omega arith)
+text_status name text (r.Words e) h is = absurd h
+text_status name text r.NotYet h is = absurd h
+text_status name text r.ReadFault h is = absurd h
+text_status name text r.TooLarge h is = absurd h
+text_status name text r.WriteFault h is = absurd h
+
+pub words_status : (words : Words) (refusal : Refusal) → HasWordsCause words refusal → is_read_whole (status_of refusal) ≡ true → ⊥
+words_status words (r.Words e) h is = absurd cc
+words_status words r.NotYet h is = absurd cc
+words_status words r.OutOfMemory h is = absurd cc
+words_status words (r.Faulty fault) h is = absurd h
+words_status words (r.NotFound missing) h is = absurd h
+words_status words r.ReadFault h is = absurd h
+words_status words r.TooLarge h is = absurd h
+words_status words r.WriteFault h is = absurd h
+
+pub read_status : (e : ReadError) → is_read_whole (status_of (of_read e)) ≡ true → ⊥
+read_status (reading.Memory e) is = absurd cc
+read_status reading.Fault is = absurd cc
+read_status reading.TooLarge is = absurd cc
+
+pub read_not_words : (e : ReadError) → status_of (of_read e) ≡ 2 → ⊥
+read_not_words (reading.Memory e) is = absurd (omega arith)
+read_not_words reading.Fault is = absurd (omega arith)
+read_not_words reading.TooLarge is = absurd (omega arith)
+
+pub not_write : (words : Words) (left : Option (List ℕ)) (read : Type 0) (refusal : Refusal) → HasCause words left read ⊥ refusal → refusal ≡ r.WriteFault → ⊥
+not_write words left read r.WriteFault h is = absurd h.1
+not_write words left read (r.Words e) h is = absurd cc
+not_write words left read r.NotYet h is = absurd cc
+not_write words left read r.OutOfMemory h is = absurd cc
+not_write words left read r.ReadFault h is = absurd cc
+not_write words left read r.TooLarge h is = absurd cc
+not_write words left read (r.Faulty fault) h is = absurd cc
+not_write words left read (r.NotFound missing) h is = absurd cc
+
+-- a refusal has a status, and no answer
+pub record OfRefusal (refusal : Refusal) : Type 0 where
+  pub known : is_status (status_of refusal) ≡ true
+  pub answer : is_answer (status_of refusal) ≡ false
+
+pub of_refusal : (refusal : Refusal) → OfRefusal refusal
+of_refusal (r.Words e) = record { known = refl; answer = refl }
+of_refusal r.NotYet = record { known = refl; answer = refl }
+of_refusal r.OutOfMemory = record { known = refl; answer = refl }
+of_refusal r.ReadFault = record { known = refl; answer = refl }
+of_refusal r.TooLarge = record { known = refl; answer = refl }
+of_refusal (r.Faulty fault) = record { known = refl; answer = refl }
+of_refusal (r.NotFound missing) = record { known = refl; answer = refl }
+of_refusal r.WriteFault = record { known = refl; answer = refl }
+
+pub not_five_refusal : (words : Words) (left : Option (List ℕ)) (read : Type 0) (refusal : Refusal) → HasCause words left read ⊥ refusal → status_of refusal ≡ 5 → ⊥
+not_five_refusal words left read r.WriteFault h is = absurd h.1
+not_five_refusal words left read (r.Words e) h is = absurd (omega arith)
+not_five_refusal words left read r.NotYet h is = absurd (omega arith)
+not_five_refusal words left read r.OutOfMemory h is = absurd (omega arith)
+not_five_refusal words left read r.ReadFault h is = absurd (omega arith)
+not_five_refusal words left read r.TooLarge h is = absurd (omega arith)
+not_five_refusal words left read (r.Faulty fault) h is = absurd (omega arith)
+not_five_refusal words left read (r.NotFound missing) h is = absurd (omega arith)
+
+-- a refusal of words, before anything is served
+pub refusal_of_words : (words : Words) → ((e : WordError) → BadWord words e → IsMemory e → ⊥) → (e : WordError) → Refused words e → HasWordsCause words (of_words e)
+refusal_of_words words law (word.Memory m) (inl bad) = absurd (law (word.Memory m) bad tt)
+refusal_of_words words law (word.Memory m) (inr o) = (o.command, o.asked)
+refusal_of_words words law word.NoCommand (inl bad) = bad_word bad
+refusal_of_words words law (word.UnknownWord n) (inl bad) = bad_word bad
+refusal_of_words words law (word.MissingValue n) (inl bad) = bad_word bad
+refusal_of_words words law (word.BadNumber n) (inl bad) = bad_word bad
+refusal_of_words words law (word.Repeated n) (inl bad) = bad_word bad
+refusal_of_words words law word.NoEntry (inl bad) = bad_word bad
+refusal_of_words words law word.TooManyEntries (inl bad) = bad_word bad
+refusal_of_words words law word.NeedsThreads (inl bad) = bad_word bad
+refusal_of_words words law (word.UnknownWatch n) (inl bad) = bad_word bad
+refusal_of_words words law (word.Excluded n) (inl bad) = bad_word bad
+refusal_of_words words law word.NoCommand (inr o) = absurd o.memory
+refusal_of_words words law (word.UnknownWord n) (inr o) = absurd o.memory
+refusal_of_words words law (word.MissingValue n) (inr o) = absurd o.memory
+refusal_of_words words law (word.BadNumber n) (inr o) = absurd o.memory
+refusal_of_words words law (word.Repeated n) (inr o) = absurd o.memory
+refusal_of_words words law word.NoEntry (inr o) = absurd o.memory
+refusal_of_words words law word.TooManyEntries (inr o) = absurd o.memory
+refusal_of_words words law word.NeedsThreads (inr o) = absurd o.memory
+refusal_of_words words law (word.UnknownWatch n) (inr o) = absurd o.memory
+refusal_of_words words law (word.Excluded n) (inr o) = absurd o.memory
+
+-- ---- names of watchers
+
+none_at_all : (list : List ℕ) → slice_get list 0 ≡ None → length list ≡ 0
+none_at_all [] is = refl
+none_at_all (first ∷ list) is = absurd cc
+
+nothing_in : {A : Type 0} (list : List A) → length list ≡ 0 → list ≡ []
+nothing_in [] is = refl
+nothing_in (first ∷ list) is = absurd (omega (arith, is))
+
+-- where no name of a watcher has a place, none was given
+pub unwatched : (words : Words) (run : RunWords) (schedule : List ℕ) → length (watch_places true (drop 1 words)) ≡ length run.watch →
+    first_watch words ≡ None → run.watch ≡ []
+unwatched words run schedule same none = nothing_in run.watch (sym same ∙ none_at_all (watch_places true (drop 1 words)) none)

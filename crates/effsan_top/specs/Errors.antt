@@ -1,46 +1,45 @@
 -- What the stages' errors become.
-use Rattle.std.specs.Prelude.{ℕ, List}
+use Rattle.std.specs.Prelude.{ℕ, List, Option, Some, None}
 use Rattle.c_lexer.specs.declared.error.LexError.{LexError}
-use Rattle.c_lexer.specs.declared.error.LexError.TheVariants as lex
 use Rattle.c_pp.specs.declared.error.PpError.{PpError}
-use Rattle.c_pp.specs.declared.error.PpError.TheVariants as pp
 use Rattle.program_form.specs.declared.error.FormError.{FormError}
 use Rattle.program_form.specs.declared.error.FormError.TheVariants as form
-use Rattle.effsan_top.specs.declared.program.ProgramError.{ProgramError}
-use Rattle.effsan_top.specs.declared.program.ProgramError.TheVariants.{Memory, Faulty}
-use Rattle.effsan_top.specs.declared.faults.TextFault.TheVariants as fault
-use Rattle.effsan_top.specs.Faults.{line_at}
 use Rattle.effs_io.specs.declared.transfer.ReadError.{ReadError}
 use Rattle.effs_io.specs.declared.transfer.ReadError.TheVariants as read
+use Rattle.effs_words.specs.declared.error.WordError.{WordError}
+use Rattle.effs_words.specs.declared.error.WordError.TheVariants as word
+use Rattle.effsan_top.specs.declared.faults.Fault.{Fault}
+use Rattle.effsan_top.specs.declared.faults.FaultKind.TheVariants as kind
+use Rattle.effsan_top.specs.declared.program.ProgramError.{ProgramError}
+use Rattle.effsan_top.specs.declared.program.ProgramError.TheVariants as error
 use Rattle.effsan_top.specs.declared.refusal.Refusal.{Refusal}
 use Rattle.effsan_top.specs.declared.refusal.Refusal.TheVariants as refusal
+use Rattle.effsan_top.specs.Faults as fault
 
--- of a text
+-- a fault, where it is one, and else the end of memory
+abbrev pub of_fault : Option Fault → ProgramError
+of_fault (Some fault) = error.Faulty fault
+of_fault None = error.Memory
+
 abbrev pub of_lexer : List ℕ → LexError → ProgramError
-of_lexer text (lex.Memory e) = Memory
-of_lexer text (lex.BadByte at) = Faulty fault.BadByte (line_at text at)
-of_lexer text (lex.OpenComment at) = Faulty fault.OpenComment (line_at text at)
-of_lexer text (lex.OpenString at) = Faulty fault.OpenString (line_at text at)
-of_lexer text (lex.NumberTooLarge at) = Faulty fault.NumberTooLarge (line_at text at)
-of_lexer text (lex.BadEscape at) = Faulty fault.BadEscape (line_at text at)
-of_lexer text (lex.TooManyTokens at) = Faulty fault.TooManyTokens (line_at text at)
+of_lexer text e = of_fault (fault.of_lexer text e)
 
 abbrev pub of_expander : PpError → ProgramError
-of_expander (pp.Memory e) = Memory
-of_expander (pp.UnknownHeader line) = Faulty fault.UnknownHeader line
-of_expander (pp.BadDirective line) = Faulty fault.BadDirective line
-of_expander (pp.MacroLoop line) = Faulty fault.MacroLoop line
-of_expander (pp.TooManyTokens line) = Faulty fault.TooManyTokens line
+of_expander e = of_fault (fault.of_expander e)
 
 abbrev pub of_form : FormError → ProgramError
-of_form (form.Memory e) = Memory
-of_form (form.NotYet line) = Faulty fault.NotYet line
+of_form (form.Memory e) = error.Memory
+of_form (form.NotYet line) = error.Faulty (fault.on kind.NotYet line)
 
 abbrev pub of_program : ProgramError → Refusal
-of_program Memory = refusal.OutOfMemory
-of_program (Faulty f line) = refusal.Faulty f line
+of_program error.Memory = refusal.OutOfMemory
+of_program (error.Faulty fault) = refusal.Faulty fault
 
 abbrev pub of_read : ReadError → Refusal
 of_read (read.Memory e) = refusal.OutOfMemory
 of_read read.Fault = refusal.ReadFault
 of_read read.TooLarge = refusal.TooLarge
+
+abbrev pub of_words : WordError → Refusal
+of_words (word.Memory e) = refusal.OutOfMemory
+of_words e = refusal.Words e

@@ -1,10 +1,10 @@
-pub mod Words
+pub mod Statuses
 pub mod Faults
 pub mod Programs
+pub mod Served
 pub mod Lines
-pub mod Statuses
 pub mod Histories
 pub mod Causes
-pub mod Refusals
-pub mod Answers
+pub mod Calls
 pub mod Errors
+pub mod Steps

@@ -1,11 +1,16 @@
 -- The lines that the program writes.
-use Rattle.std.specs.Prelude.{ℕ, List, [], ◌∷◌, ◌++◌, codes}
+use Rattle.std.specs.Prelude.{ℕ, List, [], ◌∷◌, ◌++◌, Option, Some, None, codes}
 use Rattle.std.specs.Fmt.{decimal}
 use Rattle.c_types.specs.Table.{basic_types}
 use Rattle.plain_meaning.specs.declared.record.Record.{Record}
 use Rattle.reports.specs.Lines.{ending_lines}
-use Rattle.effsan_top.specs.declared.faults.TextFault.{TextFault}
+use Rattle.effs_words.specs.Names.{error_name, error_place}
+use Rattle.effs_words.specs.declared.error.WordError.{WordError}
+use Rattle.effsan_top.specs.declared.faults.Fault.{Fault}
+use Rattle.effsan_top.specs.declared.refusal.Refusal.{Refusal}
+use Rattle.effsan_top.specs.declared.refusal.Refusal.TheVariants.{Words, NotYet, ReadFault, TooLarge, Faulty, NotFound, OutOfMemory, WriteFault}
 use Rattle.effsan_top.specs.Faults.{fault_name}
+use Rattle.effsan_top.specs.Statuses as status
 
 -- ---- on the output
 
@@ -20,36 +25,36 @@ printed run = joined run.texts ++ ending_lines run basic_types
 
 -- ---- on the error output
 
--- why there is no answer, or only a part of it
-pub data Cause : Type 0 where
-  -- the words are none that are built
-  Words : Cause
-  ReadFault : Cause
-  TooLarge : Cause
-  -- the text has no program, for this fault on this line
-  Faulty : TextFault → ℕ → Cause
-  -- no function has this name
-  NotFound : List ℕ → Cause
-  OutOfMemory : Cause
-  WriteFault : Cause
+abbrev pub status_of : Refusal → ℕ
+status_of (Words e) = status.words_refused
+status_of NotYet = status.words_refused
+status_of ReadFault = status.read_fault
+status_of TooLarge = status.too_large
+status_of (Faulty fault) = status.text_refused
+status_of (NotFound name) = status.text_refused
+status_of OutOfMemory = status.out_of_memory
+status_of WriteFault = status.write_fault
 
-abbrev pub status_of : Cause → ℕ
-status_of Words = 2
-status_of ReadFault = 4
-status_of TooLarge = 7
-status_of (Faulty f line) = 3
-status_of (NotFound name) = 3
-status_of OutOfMemory = 6
-status_of WriteFault = 5
+-- the place of a word, after a space
+abbrev pub place_text : Option ℕ → List ℕ
+place_text None = []
+place_text (Some n) = codes " " ++ decimal n
 
-abbrev pub fault_line : TextFault → ℕ → List ℕ
-fault_line f line = codes "effsan: line " ++ decimal line ++ (codes ": " ++ fault_name f) ++ codes "\n"
+abbrev pub words_line : WordError → List ℕ
+words_line e = (codes "effsan: words: " ++ error_name e) ++ place_text (error_place e) ++ codes "\n"
 
-abbrev pub line_of : Cause → List ℕ
-line_of Words = codes "effsan: words: NotYet\n"
+abbrev pub fault_line : Fault → List ℕ
+fault_line fault = codes "effsan: line " ++ decimal fault.line ++ (codes ": " ++ fault_name fault.kind) ++ codes "\n"
+
+abbrev pub missing_line : List ℕ → List ℕ
+missing_line name = codes "effsan: entry NotFound " ++ name ++ codes "\n"
+
+abbrev pub line_of : Refusal → List ℕ
+line_of (Words e) = words_line e
+line_of NotYet = codes "effsan: words: NotYet\n"
 line_of ReadFault = codes "effsan: read fault\n"
 line_of TooLarge = codes "effsan: source too large\n"
-line_of (Faulty f line) = fault_line f line
-line_of (NotFound name) = codes "effsan: entry NotFound " ++ name ++ codes "\n"
+line_of (Faulty fault) = fault_line fault
+line_of (NotFound name) = missing_line name
 line_of OutOfMemory = codes "effsan: out of memory\n"
 line_of WriteFault = codes "effsan: write fault\n"

@@ -4,10 +4,10 @@ ghost use Rattle.std.specs.Prelude.{◌≡◌, ◌≤◌, length, filter};
 ghost use Rattle.effsan_top.specs.Faults as spec;
 
 /// Why a text has no program: it has no tokens, or else a directive or a macro is at fault, or else its syntax, or else it is
-/// outside the form that runs. Of two reasons of one kind the first in the text is told, and of two at one place the one that
+/// outside the form that runs. Of two reasons of one stage the first in the text is told, and of two at one token the one that
 /// stands first here.
 #[derive(Clone, Copy, Debug, PartialEq, Eq)]
-pub enum TextFault {
+pub enum FaultKind {
     /// A byte that begins no token.
     BadByte,
     /// A comment without its end.
@@ -32,23 +32,31 @@ pub enum TextFault {
     NotYet,
 }
 
-impl TextFault {
+/// The first fault of a text.
+#[derive(Clone, Copy, Debug, PartialEq, Eq)]
+pub struct Fault {
+    pub kind: FaultKind,
+    /// Counted from 1.
+    pub line: usize,
+}
+
+impl FaultKind {
     /// As an error line says it.
     pub fn name(self) -> &'static [u8]
         ensures { result.now ≡ spec.fault_name self }
     {
         match self {
-            TextFault::BadByte => b"BadByte",
-            TextFault::OpenComment => b"OpenComment",
-            TextFault::OpenString => b"OpenString",
-            TextFault::NumberTooLarge => b"NumberTooLarge",
-            TextFault::BadEscape => b"BadEscape",
-            TextFault::TooManyTokens => b"TooManyTokens",
-            TextFault::UnknownHeader => b"UnknownHeader",
-            TextFault::BadDirective => b"BadDirective",
-            TextFault::MacroLoop => b"MacroLoop",
-            TextFault::Syntax => b"Syntax",
-            TextFault::NotYet => b"NotYet",
+            FaultKind::BadByte => b"BadByte",
+            FaultKind::OpenComment => b"OpenComment",
+            FaultKind::OpenString => b"OpenString",
+            FaultKind::NumberTooLarge => b"NumberTooLarge",
+            FaultKind::BadEscape => b"BadEscape",
+            FaultKind::TooManyTokens => b"TooManyTokens",
+            FaultKind::UnknownHeader => b"UnknownHeader",
+            FaultKind::BadDirective => b"BadDirective",
+            FaultKind::MacroLoop => b"MacroLoop",
+            FaultKind::Syntax => b"Syntax",
+            FaultKind::NotYet => b"NotYet",
         }
     }
 }
@@ -67,13 +75,13 @@ fn line_ends(text: &[u8]) -> usize
     count
 }
 
-/// The line of a place in a text, counted from 1.
-pub fn line_at(text: &[u8], place: u32) -> usize
-    ensures { result ≡ spec.line_at text.now place }
+/// The line of an offset in a text, counted from 1.
+pub fn line_at(text: &[u8], offset: u32) -> usize
+    ensures { result ≡ spec.line_at text.now offset }
 {
-    let place = place as usize;
-    if place < text.len() {
-        1 + line_ends(&text[..place])
+    let offset = offset as usize;
+    if offset < text.len() {
+        1 + line_ends(&text[..offset])
     } else {
         1 + line_ends(text)
     }

@@ -6,12 +6,18 @@ mod faults;
 mod lines;
 mod program;
 mod refusal;
+mod served;
+mod statuses;
 mod still;
-mod words;
 
 pub use effs_io::{
     CalmSink, CalmSource, Failed, InSource, MemSink, MemSource, OutSink, ReadError, Sink, Source,
     read_all, write_all,
 };
 pub use plain_meaning::{Ending, Record, Report, Text};
+pub use program::law_program;
+pub use statuses::{
+    FINISHED, OUT_OF_MEMORY, READ_FAULT, REPORTED, STOPPED, TEXT_REFUSED, TOO_LARGE, WORDS_REFUSED,
+    WRITE_FAULT,
+};
 pub use still::{Finished, effsan_still};

@@ -1,28 +1,37 @@
 //! From a source text to its program.
 
-ghost use Rattle.std.specs.Prelude.{◌≡◌, ◌<◌, ◌≤◌, length, Contains, IfOk, IfErr};
-ghost use Rattle.effsan_top.specs.Errors.{of_lexer};
+ghost use Rattle.std.specs.Prelude.{◌≡◌, ◌<◌, ◌≤◌, ℕ, List, length, Contains, IfOk, IfErr};
+ghost use Rattle.c_tokens.specs.Limits.{max_source_bytes, max_tokens};
 ghost use Rattle.c_tokens.specs.declared.token.Token.{Token as Piece};
-ghost use Rattle.c_grammar.specs.declared.units.Unit.{Unit as Tree};
 ghost use Rattle.c_grammar.specs.Units.{Derives};
 ghost use Rattle.token_texts.specs.Strings.{HaveStrings};
-ghost use Rattle.effsan_top.specs.Answers.{IsReading, IsOnlyProgram, HasUnitCause, HasProgramCause};
+ghost use Rattle.effsan_top.specs.Errors.{of_lexer};
+ghost use Rattle.effsan_top.specs.Faults.{BecomesTokens, on};
+ghost use Rattle.effsan_top.specs.Programs.{IsProgram, OneProgramLaw, NeverBothLaw, OneFaultLaw, ProgramOrFaultLaw};
+ghost use Rattle.effsan_top.specs.Steps.{IsReading, HasProgramCause};
 
-use crate::faults::{TextFault, line_at};
+use crate::faults::{Fault, FaultKind, line_at};
 use c_grammar::Unit;
-use c_lexer::{LexError, Token, law_strings, lex};
+use c_lexer::{LexError, Token, law_strings, law_tokens, lex};
 use c_parser::{ParseError, parse};
 use c_pp::{PpError, expand, law_expanded};
-use grammar_descent::law_derivation;
+use grammar_descent::{law_derivation, law_readers};
 use plain_meaning::Program;
 use program_form::{FormError, law_form, program_of};
 use std::alloc::{AllocError, Global};
 
-/// Why a text has no program: memory ran out, or the first fault in it, with its line.
+/// Why a text has no program: memory ran out, or the first fault in it.
 #[derive(Debug, Drop)]
 pub enum ProgramError {
     Memory,
-    Faulty(TextFault, usize),
+    Faulty(Fault),
+}
+
+/// A fault of this kind on a line.
+fn faulty(kind: FaultKind, line: usize) -> ProgramError
+    ensures { result ≡ ProgramError.Faulty (on kind line) }
+{
+    ProgramError::Faulty(Fault { kind, line })
 }
 
 /// Why the lexer refused a text.
@@ -31,20 +40,12 @@ fn unreadable(text: &[u8], error: LexError) -> ProgramError
 {
     match error {
         LexError::Memory(_) => ProgramError::Memory,
-        LexError::BadByte(at) => ProgramError::Faulty(TextFault::BadByte, line_at(text, at)),
-        LexError::OpenComment(at) => {
-            ProgramError::Faulty(TextFault::OpenComment, line_at(text, at))
-        }
-        LexError::OpenString(at) => {
-            ProgramError::Faulty(TextFault::OpenString, line_at(text, at))
-        }
-        LexError::NumberTooLarge(at) => {
-            ProgramError::Faulty(TextFault::NumberTooLarge, line_at(text, at))
-        }
-        LexError::BadEscape(at) => { ProgramError::Faulty(TextFault::BadEscape, line_at(text, at)) }
-        LexError::TooManyTokens(at) => {
-            ProgramError::Faulty(TextFault::TooManyTokens, line_at(text, at))
-        }
+        LexError::BadByte(at) => faulty(FaultKind::BadByte, line_at(text, at)),
+        LexError::OpenComment(at) => faulty(FaultKind::OpenComment, line_at(text, at)),
+        LexError::OpenString(at) => faulty(FaultKind::OpenString, line_at(text, at)),
+        LexError::NumberTooLarge(at) => faulty(FaultKind::NumberTooLarge, line_at(text, at)),
+        LexError::BadEscape(at) => faulty(FaultKind::BadEscape, line_at(text, at)),
+        LexError::TooManyTokens(at) => faulty(FaultKind::TooManyTokens, line_at(text, at)),
     }
 }
 
@@ -56,18 +57,10 @@ impl From<PpError> for ProgramError {
     fn from(error: PpError) -> ProgramError {
         match error {
             PpError::Memory(_) => ProgramError::Memory,
-            PpError::UnknownHeader(line) => {
-                ProgramError::Faulty(TextFault::UnknownHeader, line as usize)
-            }
-            PpError::BadDirective(line) => {
-                ProgramError::Faulty(TextFault::BadDirective, line as usize)
-            }
-            PpError::MacroLoop(line) => {
-                ProgramError::Faulty(TextFault::MacroLoop, line as usize)
-            }
-            PpError::TooManyTokens(line) => {
-                ProgramError::Faulty(TextFault::TooManyTokens, line as usize)
-            }
+            PpError::UnknownHeader(line) => faulty(FaultKind::UnknownHeader, line as usize),
+            PpError::BadDirective(line) => faulty(FaultKind::BadDirective, line as usize),
+            PpError::MacroLoop(line) => faulty(FaultKind::MacroLoop, line as usize),
+            PpError::TooManyTokens(line) => faulty(FaultKind::TooManyTokens, line as usize),
         }
     }
 }
@@ -80,7 +73,7 @@ impl From<FormError> for ProgramError {
     fn from(error: FormError) -> ProgramError {
         match error {
             FormError::Memory(_) => ProgramError::Memory,
-            FormError::NotYet(line) => ProgramError::Faulty(TextFault::NotYet, line as usize),
+            FormError::NotYet(line) => faulty(FaultKind::NotYet, line as usize),
         }
     }
 }
@@ -97,7 +90,7 @@ impl From<AllocError> for ProgramError {
 
 /// What the text becomes: its tokens, and those that stand for them when directives are obeyed and macros replaced.
 fn read(alloc: Global, text: &[u8]) -> Result<Vec<Token>, ProgramError>
-    requires { length text.now ≤ 1048576 }
+    requires { length text.now ≤ max_source_bytes }
     ensures found { IfOk result (λ tokens. IsReading text.now tokens.items) }
     ensures refused { IfErr result (λ error. HasProgramCause text.now error) }
 {
@@ -106,7 +99,6 @@ fn read(alloc: Global, text: &[u8]) -> Result<Vec<Token>, ProgramError>
         Err(error) => return Err(unreadable(text, error)),
     };
     law_strings();
-    law_expanded();
     Ok(expand(alloc, text, tokens.as_slice())?)
 }
 
@@ -121,35 +113,47 @@ fn line_of(tokens: &[Token], at: u32) -> usize
     }
 }
 
-/// The unit that the tokens derive.
+/// The unit that the tokens of a text derive.
 fn unit_of(alloc: Global, text: &[u8], tokens: &[Token]) -> Result<Unit, ProgramError>
-    requires small { length text.now ≤ 1048576 }
-    requires few { length tokens.now ≤ 200000 }
+    requires small { length text.now ≤ max_source_bytes }
+    requires few { length tokens.now ≤ max_tokens }
     requires strings { HaveStrings text.now tokens.now }
+    requires becomes { BecomesTokens text.now tokens.now }
     ensures found { IfOk result (λ unit. Derives text.now tokens.now unit) }
-    ensures only { (unit : Tree) → Derives text.now tokens.now unit → IfOk result (λ answer. answer ≡ unit) }
-    ensures refused { IfErr result (λ error. HasUnitCause text.now tokens.now error) }
+    ensures refused { IfErr result (λ error. HasProgramCause text.now error) }
 {
     match parse(alloc, text, tokens) {
         Ok(unit) => Ok(unit),
         Err(ParseError::Memory(_)) => Err(ProgramError::Memory),
-        Err(ParseError::Syntax(at)) => Err(ProgramError::Faulty(
-            TextFault::Syntax,
-            line_of(tokens, at),
-        )),
+        Err(ParseError::Syntax(at)) => Err(faulty(FaultKind::Syntax, line_of(tokens, at))),
     }
 }
 
 /// The program of a text: what it becomes derives a unit, which is of the form that runs.
 pub fn text_program(alloc: Global, text: &[u8]) -> Result<Program, ProgramError>
-    requires { length text.now ≤ 1048576 }
-    ensures found { IfOk result (λ program. IsOnlyProgram text.now program) }
+    requires { length text.now ≤ max_source_bytes }
+    ensures found { IfOk result (λ program. IsProgram text.now program) }
     ensures small { IfOk result (λ program. length program.functions ≤ 20000000) }
     ensures refused { IfErr result (λ error. HasProgramCause text.now error) }
 {
     let tokens = read(alloc, text)?;
     let unit = unit_of(alloc, text, tokens.as_slice())?;
     law_derivation();
-    law_form();
     Ok(program_of(alloc, &unit)?)
+}
+
+/// Each text has a program or a first fault, and never both. There is one program of a text and one fault, of which only the line
+/// of `Syntax` is open: it is that of some token.
+pub fn law_program()
+    ensures one_program { OneProgramLaw }
+    ensures never_both { NeverBothLaw }
+    ensures one_fault { OneFaultLaw }
+    ensures program_or_fault { ProgramOrFaultLaw }
+{
+    law_tokens();
+    law_strings();
+    law_expanded();
+    law_readers();
+    law_derivation();
+    law_form();
 }

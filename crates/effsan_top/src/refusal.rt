@@ -1,57 +1,68 @@
 //! Why there is no answer, and the line that says so.
 
-ghost use Rattle.std.specs.Prelude.{◌≡◌, ◌≤◌, ◌++◌, codes, OnOk, OnErr};
+ghost use Rattle.std.specs.Prelude.{◌≡◌, ◌≤◌, ◌++◌, Option, codes, OnOk, OnErr};
 ghost use Rattle.effsan_top.specs.declared.refusal.Refusal.TheVariants.{OutOfMemory};
 ghost use Rattle.effs_io.specs.Streams.{Rose, Appends, AppendsSome};
+ghost use Rattle.effs_words.specs.Names.{error_name, error_place};
 ghost use Rattle.std.specs.Fmt.{decimal};
 ghost use Rattle.effsan_top.specs.Faults.{fault_name};
-ghost use Rattle.effsan_top.specs.Lines.{status_of, line_of, fault_line};
+ghost use Rattle.effsan_top.specs.Lines.{status_of, line_of, fault_line, missing_line, place_text, words_line};
 
-use crate::faults::TextFault;
+use crate::faults::{Fault, FaultKind};
 use crate::program::ProgramError;
+use crate::statuses::{
+    OUT_OF_MEMORY, READ_FAULT, TEXT_REFUSED, TOO_LARGE, WORDS_REFUSED, WRITE_FAULT,
+};
+use c_types::Text;
 use effs_io::{Failed, ReadError, Sink, write_all};
+use effs_words::WordError;
 use itoa::Buffer;
 use std::alloc::AllocError;
 
-/// Why there is no answer, or only a part of it. A name that no function has is the one that the words give.
-#[derive(Clone, Copy, Debug)]
-pub enum Refusal<'a> {
-    Words,
+/// Why there is no answer, or only a part of it.
+#[derive(Debug, Drop)]
+pub enum Refusal {
+    /// The first bad word, or a command or a watcher that the call cannot serve.
+    Words(WordError),
+    /// The words ask for something that is not built yet.
+    NotYet,
     ReadFault,
     TooLarge,
-    Faulty(TextFault, usize),
-    NotFound(&'a [u8]),
+    /// The text has no program.
+    Faulty(Fault),
+    /// No function has this name.
+    NotFound(Text),
     OutOfMemory,
     WriteFault,
 }
 
-impl From<AllocError> for Refusal<'_> {
+impl From<AllocError> for Refusal {
     ghost from_gives = { λ _ r. r ≡ OutOfMemory };
 
-    fn from(_e: AllocError) -> Self {
+    fn from(_e: AllocError) -> Refusal {
         Refusal::OutOfMemory
     }
 }
 
-impl From<ProgramError> for Refusal<'_> {
+impl From<ProgramError> for Refusal {
     ghost use Rattle.effsan_top.specs.Errors.{of_program};
 
     ghost from_gives = { λ e r. r ≡ of_program e };
 
-    fn from(error: ProgramError) -> Self {
+    fn from(error: ProgramError) -> Refusal {
         match error {
             ProgramError::Memory => Refusal::OutOfMemory,
-            ProgramError::Faulty(fault, line) => Refusal::Faulty(fault, line),
+            ProgramError::Faulty(fault) => Refusal::Faulty(fault),
         }
     }
 }
 
-impl From<ReadError> for Refusal<'_> {
+impl From<ReadError> for Refusal {
     ghost use Rattle.effsan_top.specs.Errors.{of_read};
 
     ghost from_gives = { λ e r. r ≡ of_read e };
 
-    fn from(error: ReadError) -> Self {
+    fn from(error: ReadError) -> Refusal {
         match error {
             ReadError::Memory(_) => Refusal::OutOfMemory,
             ReadError::Fault => Refusal::ReadFault,
@@ -60,35 +71,47 @@ impl From<ReadError> for Refusal<'_> {
     }
 }
 
-impl Refusal<'_> {
-    ghost use Rattle.effsan_top.specs.Refusals.{cause_of};
+impl From<WordError> for Refusal {
+    ghost use Rattle.effsan_top.specs.Errors.{of_words};
 
+    ghost from_gives = { λ e r. r ≡ of_words e };
+
+    fn from(error: WordError) -> Refusal {
+        match error {
+            WordError::Memory(_) => Refusal::OutOfMemory,
+            other => Refusal::Words(other),
+        }
+    }
+}
+
+impl Refusal {
     /// The exit status.
-    pub fn status(self) -> u8
-        ensures { result ≡ status_of (cause_of self.entry) }
+    pub fn status(&self) -> u8
+        ensures { result ≡ status_of self.now }
     {
         match self {
-            Refusal::Words => 2,
-            Refusal::Faulty(..) | Refusal::NotFound(_) => 3,
-            Refusal::ReadFault => 4,
-            Refusal::WriteFault => 5,
-            Refusal::OutOfMemory => 6,
-            Refusal::TooLarge => 7,
+            Refusal::Words(_) | Refusal::NotYet => WORDS_REFUSED,
+            Refusal::Faulty(_) | Refusal::NotFound(_) => TEXT_REFUSED,
+            Refusal::ReadFault => READ_FAULT,
+            Refusal::WriteFault => WRITE_FAULT,
+            Refusal::OutOfMemory => OUT_OF_MEMORY,
+            Refusal::TooLarge => TOO_LARGE,
         }
     }
 
     /// Writes the line that says why, without taking memory.
-    pub fn write<E: Sink>(self, err: &mut E) -> Result<(), Failed>
-        ensures ok { OnOk result (Appends (line_of (cause_of self.entry)) (E.taken err.old) (E.taken err.new)) }
-        ensures failed { OnErr result (AppendsSome (line_of (cause_of self.entry)) (E.taken err.old) (E.taken err.new)) }
+    pub fn write<E: Sink>(&self, err: &mut E) -> Result<(), Failed>
+        ensures ok { OnOk result (Appends (line_of self.now) (E.taken err.old) (E.taken err.new)) }
+        ensures failed { OnErr result (AppendsSome (line_of self.now) (E.taken err.old) (E.taken err.new)) }
         ensures cause { OnErr result (Rose (E.faults err.old) (E.faults err.new)) }
     {
         match self {
-            Refusal::Words => write_all(err, b"effsan: words: NotYet\n"),
+            Refusal::Words(error) => write_words(err, error),
+            Refusal::NotYet => write_all(err, b"effsan: words: NotYet\n"),
             Refusal::ReadFault => write_all(err, b"effsan: read fault\n"),
             Refusal::TooLarge => write_all(err, b"effsan: source too large\n"),
-            Refusal::Faulty(fault, line) => write_faulty(err, fault, line),
-            Refusal::NotFound(name) => write_missing(err, name),
+            Refusal::Faulty(fault) => write_faulty(err, *fault),
+            Refusal::NotFound(name) => write_missing(err, name.bytes()),
             Refusal::OutOfMemory => write_all(err, b"effsan: out of memory\n"),
             Refusal::WriteFault => write_all(err, b"effsan: write fault\n"),
         }
@@ -117,29 +140,65 @@ fn write_line_number<E: Sink>(err: &mut E, line: usize) -> Result<(), Failed>
     write_both(err, b"effsan: line ", digits.format(line).as_bytes())
 }
 
-fn write_fault_name<E: Sink>(err: &mut E, fault: TextFault) -> Result<(), Failed>
-    ensures ok { OnOk result (Appends (codes ": " ++ fault_name fault) (E.taken err.old) (E.taken err.new)) }
-    ensures failed { OnErr result (AppendsSome (codes ": " ++ fault_name fault) (E.taken err.old) (E.taken err.new)) }
+fn write_fault_name<E: Sink>(err: &mut E, kind: FaultKind) -> Result<(), Failed>
+    ensures ok { OnOk result (Appends (codes ": " ++ fault_name kind) (E.taken err.old) (E.taken err.new)) }
+    ensures failed { OnErr result (AppendsSome (codes ": " ++ fault_name kind) (E.taken err.old) (E.taken err.new)) }
     ensures cause { OnErr result (Rose (E.faults err.old) (E.faults err.new)) }
     ensures never_falls { E.faults err.old ≤ E.faults err.new }
 {
-    write_both(err, b": ", fault.name())
+    write_both(err, b": ", kind.name())
 }
 
-fn write_faulty<E: Sink>(err: &mut E, fault: TextFault, line: usize) -> Result<(), Failed>
-    ensures ok { OnOk result (Appends (fault_line fault line) (E.taken err.old) (E.taken err.new)) }
-    ensures failed { OnErr result (AppendsSome (fault_line fault line) (E.taken err.old) (E.taken err.new)) }
+fn write_faulty<E: Sink>(err: &mut E, fault: Fault) -> Result<(), Failed>
+    ensures ok { OnOk result (Appends (fault_line fault) (E.taken err.old) (E.taken err.new)) }
+    ensures failed { OnErr result (AppendsSome (fault_line fault) (E.taken err.old) (E.taken err.new)) }
     ensures cause { OnErr result (Rose (E.faults err.old) (E.faults err.new)) }
 {
-    write_line_number(err, line)?;
-    write_fault_name(err, fault)?;
+    write_line_number(err, fault.line)?;
+    write_fault_name(err, fault.kind)?;
+    write_all(err, b"\n")?;
+    Ok(())
+}
+
+fn write_error_name<E: Sink>(err: &mut E, error: &WordError) -> Result<(), Failed>
+    ensures ok { OnOk result (Appends (codes "effsan: words: " ++ error_name error.now) (E.taken err.old) (E.taken err.new)) }
+    ensures failed { OnErr result (AppendsSome (codes "effsan: words: " ++ error_name error.now) (E.taken err.old) (E.taken err.new)) }
+    ensures cause { OnErr result (Rose (E.faults err.old) (E.faults err.new)) }
+    ensures never_falls { E.faults err.old ≤ E.faults err.new }
+{
+    write_both(err, b"effsan: words: ", error.name())
+}
+
+/// Writes the place of a word after a space, where there is one.
+fn write_error_place<E: Sink>(err: &mut E, error: &WordError) -> Result<(), Failed>
+    ensures ok { OnOk result (Appends (place_text (error_place error.now)) (E.taken err.old) (E.taken err.new)) }
+    ensures failed { OnErr result (AppendsSome (place_text (error_place error.now)) (E.taken err.old) (E.taken err.new)) }
+    ensures cause { OnErr result (Rose (E.faults err.old) (E.faults err.new)) }
+    ensures never_falls { E.faults err.old ≤ E.faults err.new }
+{
+    match error.place() {
+        Some(place) => {
+            let mut digits = Buffer::new();
+            write_both(err, b" ", digits.format(place).as_bytes())
+        }
+        None => write_all(err, b""),
+    }
+}
+
+fn write_words<E: Sink>(err: &mut E, error: &WordError) -> Result<(), Failed>
+    ensures ok { OnOk result (Appends (words_line error.now) (E.taken err.old) (E.taken err.new)) }
+    ensures failed { OnErr result (AppendsSome (words_line error.now) (E.taken err.old) (E.taken err.new)) }
+    ensures cause { OnErr result (Rose (E.faults err.old) (E.faults err.new)) }
+{
+    write_error_name(err, error)?;
+    write_error_place(err, error)?;
     write_all(err, b"\n")?;
     Ok(())
 }
 
 fn write_missing<E: Sink>(err: &mut E, name: &[u8]) -> Result<(), Failed>
-    ensures ok { OnOk result (Appends (codes "effsan: entry NotFound " ++ name.now ++ codes "\n") (E.taken err.old) (E.taken err.new)) }
-    ensures failed { OnErr result (AppendsSome (codes "effsan: entry NotFound " ++ name.now ++ codes "\n") (E.taken err.old) (E.taken err.new)) }
+    ensures ok { OnOk result (Appends (missing_line name.now) (E.taken err.old) (E.taken err.new)) }
+    ensures failed { OnErr result (AppendsSome (missing_line name.now) (E.taken err.old) (E.taken err.new)) }
     ensures cause { OnErr result (Rose (E.faults err.old) (E.faults err.new)) }
 {
     write_all(err, b"effsan: entry NotFound ")?;

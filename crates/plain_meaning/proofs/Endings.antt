@@ -26,7 +26,7 @@ pub checked_unspent : (line : ℕ) (action : Action) (v w : Scalar CheckedPointe
 checked_unspent line Null v w = tt
 checked_unspent line IsNull v w = tt
 checked_unspent line (Allocate elem) v w = tt
-checked_unspent line Free v w = either (may_escape (pointer_of v).reach (pointer_of v).word) _ _ tt tt
+checked_unspent line Free v w = tt
 checked_unspent line (Load kind) v w = tt
 checked_unspent line (Store kind) v w = tt
 checked_unspent line Pass v w = either (may_escape (pointer_of v).reach (pointer_of v).word) _ _ tt tt

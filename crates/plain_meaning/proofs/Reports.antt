@@ -96,7 +96,7 @@ asks : (line : ℕ) (action : Action) (v w : Scalar CheckedPointer) → Asks lin
 asks line Null v w = tt
 asks line IsNull v w = tt
 asks line (Allocate elem) v w = λ kind is. absurd is
-asks line Free v w = unless line Free (pointer_of v) (may_escape (pointer_of v).reach (pointer_of v).word) _ refl (λ kind is. of_free)
+asks line Free v w = λ kind is. of_free
 asks line (Load access) v w = λ kind is. of_load
 asks line (Store access) v w = λ kind is. of_store
 asks line Pass v w = unless line Pass (pointer_of v) (may_escape (pointer_of v).reach (pointer_of v).word) _ refl tt

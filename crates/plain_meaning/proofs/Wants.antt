@@ -42,7 +42,7 @@ checked_known : (line : ℕ) (action : Action) (v w : Scalar CheckedPointer) →
 checked_known line Null v w = tt
 checked_known line IsNull v w = tt
 checked_known line (Allocate elem) v w = tt
-checked_known line Free v w = either (may_escape (pointer_of v).reach (pointer_of v).word) _ _ tt (omega arith)
+checked_known line Free v w = tt
 checked_known line (Load kind) v w = tt
 checked_known line (Store kind) v w = tt
 checked_known line Pass v w = either (may_escape (pointer_of v).reach (pointer_of v).word) _ _ tt (omega arith)

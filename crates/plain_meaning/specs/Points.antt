@@ -125,7 +125,8 @@ abbrev pub checked_point : CheckedNote → ℕ → Action → Scalar CheckedPoin
 checked_point note line Null u w = Now (Go (Pointer null) note)
 checked_point note line IsNull u w = Now (Go (Number (bit (is_null (pointer_of u)))) note)
 checked_point note line (Allocate elem) u w = Ask (call.Alloc elem (natural (number_of u)) false)
-checked_point note line Free u w = unless_escape line (pointer_of u) note (Ask (call.Free (pointer_of u).word false))
+-- it was tested where it was passed
+checked_point note line Free u w = Ask (call.Free (pointer_of u).word false)
 checked_point note line (Load kind) u w = Ask (call.Load (pointer_of u).word (pointer_of u).reach kind)
 checked_point note line (Store kind) u w = Ask (call.Store (pointer_of u).word (pointer_of u).reach kind (number_value (number_of w)))
 checked_point note line Pass u w = unless_escape line (pointer_of u) note (Now (Go (Pointer (pointer_of u)) note))

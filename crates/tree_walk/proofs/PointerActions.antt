@@ -81,9 +81,8 @@ module _ (walk : Walk) (line : ℕ) (p : CheckedPointer) where
       ap (λ b. cond b (check_for want p tt) (Now (halt_with (escape line p) tt))) inside
       ∙ ap (λ b. let x : Asking = cond b (Now (Go (Pointer p) tt)) (Ask (call.Check p.word want)) in x) is
 
-  pub asks_free : may_escape p.reach p.word ≡ true → checked_point tt line Free (Pointer p) zero_of ≡ Ask (call.Free p.word false)
-  asks_free inside =
-      ap (λ b. let x : Asking = cond b (Ask (call.Free p.word false)) (Now (halt_with (escape line p) tt)) in x) inside
+  pub asks_free : checked_point tt line Free (Pointer p) zero_of ≡ Ask (call.Free p.word false)
+  asks_free = refl
 
   pub release_escapes : (t : Events) → may_escape p.reach p.word ≡ false → Passes walk (release line (Pointer p) t) walk (Stop (Reported (escape line p)))
   release_escapes t out =

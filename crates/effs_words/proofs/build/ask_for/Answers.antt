@@ -1,7 +1,5 @@
-use Rattle.std.proofs.Common.{◌≡◌, ℕ, refl, Some, None, length, map, sym, ap, ◌∙◌, subst, arith}
+use Rattle.std.proofs.Common.{◌≡◌, refl, map, sym, ap, ◌∙◌, arith}
 use Rattle.std.specs.Prelude.{string_bytes}
-use Rattle.std.proofs.lemmas.Grind.{common_steps}
-use Rattle.effs_words.specs.Options.{entry_count}
 use Rattle.effs_words.specs.Words.{schedule_in}
 use Rattle.effs_words.specs.Judged.{asked_of}
 use Rattle.effs_words.proofs.Answering.{entries_read, watch_all, counted}

@@ -1,4 +1,4 @@
-use Rattle.std.proofs.Common.{arith, inl, inr, ◌≡◌, ◌<◌, get_or, length, Some, None, subst, sym, ◌∙◌, ap}
+use Rattle.std.proofs.Common.{arith, inl, inr, ◌≡◌, ◌<◌, get_or, length, Some, None}
 use Rattle.std.specs.Prelude.{string_bytes}
 use Rattle.std.proofs.lemmas.List.{get_or_default}
 use Rattle.std.proofs.lemmas.Grind.{common_steps}

@@ -1,4 +1,4 @@
-use Rattle.std.proofs.Common.{map, subst, sym, inl, inr, refl, arith}
+use Rattle.std.proofs.Common.{map, subst, inl, inr, refl, arith}
 use Rattle.std.specs.Prelude.{string_bytes}
 use Rattle.std.proofs.lemmas.Result.{err_from_is_err_and}
 use Rattle.effs_words.specs.Judged.{IsBadSomewhere, asked_of}

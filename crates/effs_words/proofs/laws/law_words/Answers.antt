@@ -1,4 +1,5 @@
 use Rattle.effs_words.proofs.OneAnswer.{apart, either, one_command, one_refusal}
+use Rattle.effs_words.proofs.NoMemory.{no_memory}
 use Rattle.effs_words.proofs.laws.law_words.Goals as goal
 
 pub returns-clause-apart : goal.returns-clause-apart
@@ -12,3 +13,6 @@ returns-clause-one_command c = one_command
 
 pub returns-clause-one_refusal : goal.returns-clause-one_refusal
 returns-clause-one_refusal c = one_refusal
+
+pub returns-clause-no_memory : goal.returns-clause-no_memory
+returns-clause-no_memory c = no_memory

@@ -1,4 +1,4 @@
-use Rattle.std.proofs.Common.{arith, rules, ◌≡◌, false, true, ap, ◌∙◌, sym, drop, []}
+use Rattle.std.proofs.Common.{arith, ◌≡◌, true, ap, ◌∙◌, sym, drop, []}
 use Rattle.std.proofs.lemmas.Grind.{common_steps}
 use Rattle.std.proofs.lemmas.List.{drop_all}
 use Rattle.std.specs.List.{list_all}

@@ -1,4 +1,4 @@
-use Rattle.std.proofs.Common.{arith, ap, sym, ◌∙◌}
+use Rattle.std.proofs.Common.{arith, ap}
 use Rattle.std.specs.Option.{option_map}
 use Rattle.effs_words.proofs.Turning.{stops, stops_over, goes_on}
 use Rattle.effs_words.proofs.schedule.is_schedule.Goals as goal

@@ -1,4 +1,4 @@
-use Rattle.std.proofs.Common.{◌≡◌, List, ℕ, [], ◌++◌, ap, length, take, drop, map, sym, ◌∙◌, arith, refl, take-append-drop}
+use Rattle.std.proofs.Common.{◌≡◌, [], ◌++◌, ap, length, take, map, sym, ◌∙◌, arith, take-append-drop}
 use Rattle.std.specs.Prelude.{string_bytes}
 use Rattle.std.proofs.lemmas.List.{drop_all, length-map}
 use Rattle.effs_words.specs.Lines.{no_entry}

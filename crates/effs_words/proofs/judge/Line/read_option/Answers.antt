@@ -1,9 +1,9 @@
-use Rattle.std.proofs.Common.{◌≡◌, ◌<◌, ◌≤◌, ◌+◌, ℕ, List, Some, None, get_or, length, map, take, sym, ap, ◌∙◌, subst, true, false, arith, rules}
+use Rattle.std.proofs.Common.{◌≡◌, ◌<◌, ◌≤◌, ◌+◌, get_or, length, map, take, sym, ◌∙◌, subst, true, false, arith}
 use Rattle.std.specs.Prelude.{string_bytes}
 use Rattle.std.specs.Option.{ForSome}
 use Rattle.std.proofs.lemmas.List.{get_or_default}
 use Rattle.std.proofs.lemmas.Grind.{common_steps}
-use Rattle.effs_words.specs.Options.{option_of, takes_value, word_fault, value_fault, with_flag, with_value}
+use Rattle.effs_words.specs.Options.{takes_value, with_value}
 use Rattle.effs_words.specs.Lines.{Reads}
 use Rattle.effs_words.specs.Judged.{asked_of}
 use Rattle.effs_words.proofs.Steps.{few_after, watch_read, unknown_next, misplaced_next, missing_next, bad_value_next, read_alone, read_valued}

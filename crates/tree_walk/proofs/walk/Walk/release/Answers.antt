@@ -43,7 +43,7 @@ returns-in_err-ask-clause-leads c =
     rw (p.1, p.2)
     (ask_stops {A = Unit {0}} {B = Unit {0}} walk c.turn.new.self c.ask.new.self (λ next. release line (Pointer pointer) (next tt)) no_value (call.Free pointer.word false)
     (record { line = line; word = pointer.word; reach = c.slot_bounds.result; want = 0 }) Free (Pointer pointer) zero_of (λ next done. next tt) c.in_err-ask.field-0.0
-    (asks_free c.turn.new.self line pointer inside) (record { word = refl; reach = c.slot_bounds.ensures; want = refl })
+    (asks_free c.turn.new.self line pointer) (record { word = refl; reach = c.slot_bounds.ensures; want = refl })
     (λ next. passes_on (release_goes walk line pointer (next tt) inside is) ((c.in_ok-turn.ensures {u = tt}).leads (λ x. frees line pointer (next tt))))
     (c.in_err-ask.ensures {u = tt}).asked)
 
@@ -57,4 +57,4 @@ returns-clause-leads c = λ next.
     passes_on (release_goes walk line pointer (next tt) inside is)
     (passes_on ((c.in_ok-turn.ensures {u = tt}).leads (λ x. frees line pointer (next tt)))
     (to_words (next tt) (done_onward line Free (Pointer pointer) zero_of (next tt) c.in_ok-ask.field-0 (c.in_ok-ask.ensures {u = tt}).told)
-    ((c.in_ok-ask.ensures {u = tt}).asked Free (Pointer pointer) zero_of (λ done. next tt) (asks_free c.turn.new.self line pointer inside))))
+    ((c.in_ok-ask.ensures {u = tt}).asked Free (Pointer pointer) zero_of (λ done. next tt) (asks_free c.turn.new.self line pointer))))

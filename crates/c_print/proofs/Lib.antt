@@ -1,0 +1,5 @@
+pub mod Onward
+pub mod ByteKinds
+pub mod Sound
+pub mod Complete
+pub mod Hexadecimal

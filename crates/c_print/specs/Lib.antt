@@ -1,0 +1,4 @@
+pub mod Formats
+pub mod Machine
+pub mod Built
+pub mod Numbers

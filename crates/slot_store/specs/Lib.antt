@@ -1,0 +1,4 @@
+pub mod Cells
+pub mod Pages
+pub mod Slots
+pub mod Words

@@ -1,0 +1,12 @@
+//! The bytes and marks of one region's slots.
+#![tactic(auto)]
+
+mod bits;
+mod header_words;
+mod page;
+mod pages;
+mod store;
+#[cfg(test)]
+mod tests;
+
+pub use store::{Store, law_slots};
