@@ -3,7 +3,7 @@ use Rattle.std.proofs.Common.{◌≡◌, ℕ, inl, inr, Bool, true, false, List,
 use Rattle.std.specs.Prelude.{IfOk, IfErr, MatchResult}
 use Rattle.effs_words.specs.Numbers.{Word}
 use Rattle.effs_words.specs.Options.{Asked, entry_count, values_of}
-use Rattle.effs_words.specs.Lines.{Reads, IsBadNext, place_after}
+use Rattle.effs_words.specs.Lines.{AreOptions, IsBadNext, place_after}
 use Rattle.effs_words.specs.Words as words
 use Rattle.effs_words.specs.Words.{Words, BadWord, HasCause, IsMemory, IsOutOfMemory, command_of, run_words, schedule_in}
 use Rattle.effs_words.specs.Judged.{AsksIn, IsAnswer, IsBadSomewhere, HasLineCause}
@@ -32,14 +32,14 @@ module _ (word : Word) (ws : List Word) where
   bad_run e b named =
       subst (λ l. BadWord (word ∷ l) e) (sym b.joined)
       (words.run b.before b.rest b.bad.asked named
-      (subst (λ l. Reads false (entry_count false l) b.before b.bad.asked) b.joined b.bad.reads)
+      (subst (λ l. AreOptions false (entry_count false l) b.before b.bad.asked) b.joined b.bad.reads)
       (subst (λ l. IsBadNext false (entry_count false l) b.bad.asked (place_after b.before) b.rest e) b.joined b.bad.bad))
 
   bad_play : (e : WordError) → IsBadSomewhere true (entry_count true ws) ws e → command_of word ≡ Some name.Play → BadWord (word ∷ ws) e
   bad_play e b named =
       subst (λ l. BadWord (word ∷ l) e) (sym b.joined)
       (words.play b.before b.rest b.bad.asked named
-      (subst (λ l. Reads true (entry_count true l) b.before b.bad.asked) b.joined b.bad.reads)
+      (subst (λ l. AreOptions true (entry_count true l) b.before b.bad.asked) b.joined b.bad.reads)
       (subst (λ l. IsBadNext true (entry_count true l) b.bad.asked (place_after b.before) b.rest e) b.joined b.bad.bad))
 
   pub run_refused : (e : WordError) → HasLineCause false ws e → command_of word ≡ Some name.Run → HasCause (word ∷ ws) e
@@ -73,14 +73,14 @@ is_only_refused ws (Err other) (inr memory) e wrong = absurd (apart ws memory.co
 
 -- ---- what the options of a line ask for
 
-pub entries_read : (play : Bool) (workers : ℕ) (ws : List Word) (a : Asked) → Reads play workers ws a → values_of play Entries None ws ≡ a.entries
+pub entries_read : (play : Bool) (workers : ℕ) (ws : List Word) (a : Asked) → AreOptions play workers ws a → values_of play Entries None ws ≡ a.entries
 entries_read play workers ws a reads =
     ap (values_of play Entries None) (sym (append-nil ws)) ∙ values_on play workers Entries ws a reads [] ∙ append-nil a.entries
 
-pub watch_all : (play : Bool) (workers : ℕ) (ws : List Word) (a : Asked) → Reads play workers ws a → values_of play Watches None ws ≡ a.watch
+pub watch_all : (play : Bool) (workers : ℕ) (ws : List Word) (a : Asked) → AreOptions play workers ws a → values_of play Watches None ws ≡ a.watch
 watch_all play workers ws a reads =
     ap (values_of play Watches None) (sym (append-nil ws)) ∙ values_on play workers Watches ws a reads [] ∙ append-nil a.watch
 
-pub counted : (play : Bool) (workers : ℕ) (ws : List Word) (a : Asked) → Reads play workers ws a → entry_count play ws ≡ length a.entries
+pub counted : (play : Bool) (workers : ℕ) (ws : List Word) (a : Asked) → AreOptions play workers ws a → entry_count play ws ≡ length a.entries
 unfolding entry_count
 counted play workers ws a reads = ap length (entries_read play workers ws a reads)

@@ -2,7 +2,7 @@
 use Rattle.std.proofs.Common.{◌≡◌, ℕ, ◌+◌, Bool, true, false, List, [], ◌∷◌, ◌++◌, Option, Some, None, Result, Ok, Err, refl, sym, ap, ◌∙◌, subst, append_assoc, append-nil, length-append, arith, cond}
 use Rattle.effs_words.specs.Numbers.{Word}
 use Rattle.effs_words.specs.Options.{Asked, nothing, option_of, takes_value, word_fault, value_fault, with_flag, with_value, values_of, is_listed, onto_if}
-use Rattle.effs_words.specs.Lines.{Reads, start, alone, valued, IsBadNext, unknown, misplaced, missing, bad_value, no_entry, place_after}
+use Rattle.effs_words.specs.Lines.{AreOptions, start, alone, valued, IsBadNext, unknown, misplaced, missing, bad_value, no_entry, place_after}
 use Rattle.effs_words.specs.declared.error.WordError.{WordError}
 use Rattle.effs_words.specs.declared.error.WordError.TheVariants as error
 use Rattle.effs_words.specs.declared.options.OptionName.{OptionName}
@@ -58,7 +58,7 @@ module _ (play : Bool) (workers : ℕ) where
       → word_fault a n name ≡ None → takes_value name ≡ true → judge a n None (word ∷ words) ≡ judge a n (Some name) words
   waits a n word name words named sound taken = rw (judge, named, sound, taken) refl
 
-  pub reads_on : (words : List Word) (a : Asked) → Reads play workers words a → (rest : List Word)
+  pub reads_on : (words : List Word) (a : Asked) → AreOptions play workers words a → (rest : List Word)
       → judge nothing 2 None (words ++ rest) ≡ judge a (place_after words) None rest
   reads_on [] _ start rest = refl
   reads_on _ _ (alone words a word name before named sound bare) rest =
@@ -88,20 +88,20 @@ module _ (play : Bool) (workers : ℕ) where
 
   -- the line is read whole and names an entry, or it has a first bad word
   pub data Outcome (all : List Word) : Type 0 where
-    good : (a : Asked) (entry : Word) (entries : List Word) → Reads play workers all a → a.entries ≡ entry ∷ entries → Outcome all
-    bad : (read rest : List Word) (a : Asked) (e : WordError) → all ≡ read ++ rest → Reads play workers read a
+    good : (a : Asked) (entry : Word) (entries : List Word) → AreOptions play workers all a → a.entries ≡ entry ∷ entries → Outcome all
+    bad : (read rest : List Word) (a : Asked) (e : WordError) → all ≡ read ++ rest → AreOptions play workers read a
         → IsBadNext play workers a (place_after read) rest e → Outcome all
 
   -- where the reading stands after some words: between two options, or with the value of one to come
   pub data Stands (all : List Word) : Type 0 where
-    between : (a : Asked) → Reads play workers all a → Stands all
-    within : (read : List Word) (a : Asked) (word : Word) (name : OptionName) → all ≡ read ++ word ∷ [] → Reads play workers read a
+    between : (a : Asked) → AreOptions play workers all a → Stands all
+    within : (read : List Word) (a : Asked) (word : Word) (name : OptionName) → all ≡ read ++ word ∷ [] → AreOptions play workers read a
         → option_of play word ≡ Some name → word_fault a (place_after read) name ≡ None → takes_value name ≡ true → Stands all
 
   later : (read : List Word) (word : Word) (rest : List Word) → Outcome ((read ++ word ∷ []) ++ rest) → Outcome (read ++ (word ∷ rest))
   later read word rest o = subst Outcome (append_assoc read (word ∷ []) rest) o
 
-  outcome_between : (read : List Word) (a : Asked) (word : Word) (rest : List Word) → Reads play workers read a
+  outcome_between : (read : List Word) (a : Asked) (word : Word) (rest : List Word) → AreOptions play workers read a
       → ((s : Stands (read ++ word ∷ [])) → Outcome ((read ++ word ∷ []) ++ rest)) → Outcome (read ++ (word ∷ rest))
   outcome_between read a word rest reads go =
       by_option (option_of play word)
@@ -116,14 +116,14 @@ module _ (play : Bool) (workers : ℕ) where
   outcome read (between a reads) [] =
       by_list a.entries
       (λ empty. bad read [] a error.NoEntry refl reads (no_entry empty))
-      (λ entry entries is. good a entry entries (subst (λ ws. Reads play workers ws a) (sym (append-nil read)) reads) is)
+      (λ entry entries is. good a entry entries (subst (λ ws. AreOptions play workers ws a) (sym (append-nil read)) reads) is)
   outcome read (within before a word name is reads named sound taken) [] =
       bad before (word ∷ []) a (error.MissingValue (place_after before)) (append-nil read ∙ is) reads (missing name named sound taken)
   outcome read (between a reads) (word ∷ rest) = outcome_between read a word rest reads (λ s. outcome (read ++ word ∷ []) s rest)
   outcome read (within before a word name is reads named sound taken) (given ∷ rest) =
       by_option (value_fault workers a (place_after before) name given)
       (λ fits. later read given rest (outcome (read ++ given ∷ [])
-      (between (with_value a name given) (subst (λ ws. Reads play workers ws (with_value a name given)) (sym (whole given)) (valued before a word given name reads named sound taken fits))) rest))
+      (between (with_value a name given) (subst (λ ws. AreOptions play workers ws (with_value a name given)) (sym (whole given)) (valued before a word given name reads named sound taken fits))) rest))
       (λ e wrong. bad before (word ∷ given ∷ rest) a e (ap (λ ws. ws ++ (given ∷ rest)) is ∙ append_assoc before (word ∷ []) (given ∷ rest)) reads (bad_value name named sound taken wrong))
     where
       whole : (v : Word) → read ++ v ∷ [] ≡ before ++ word ∷ v ∷ []
@@ -177,7 +177,7 @@ value_adds Watches a option.Watch v more taken = sym (append_assoc a.watch (v �
 value_adds Watches a option.Schedule v more taken = refl
 
 -- what is read has named these, whatever stands after it
-pub values_on : (play : Bool) (workers : ℕ) (listed : Listed) (words : List Word) (a : Asked) → Reads play workers words a → (rest : List Word)
+pub values_on : (play : Bool) (workers : ℕ) (listed : Listed) (words : List Word) (a : Asked) → AreOptions play workers words a → (rest : List Word)
     → values_of play listed None (words ++ rest) ≡ listed_of listed a ++ values_of play listed None rest
 values_on play workers Entries [] _ start rest = refl
 values_on play workers Watches [] _ start rest = refl

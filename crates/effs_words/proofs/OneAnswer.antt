@@ -2,7 +2,7 @@
 use Rattle.std.proofs.Common.{◌≡◌, ℕ, ◌<◌, ◌⊎◌, inl, inr, Bool, true, false, List, [], ◌∷◌, ◌++◌, length, Option, Some, None, Result, Ok, Err, refl, sym, ap, ◌∙◌, subst, append-nil, arith}
 use Rattle.effs_words.specs.Numbers.{Word}
 use Rattle.effs_words.specs.Options.{Asked, nothing, entry_count}
-use Rattle.effs_words.specs.Lines.{Reads, start, place_after, IsBadNext}
+use Rattle.effs_words.specs.Lines.{AreOptions, start, place_after, IsBadNext}
 use Rattle.effs_words.specs.Words as words
 use Rattle.effs_words.specs.Words.{Words, BadWord, command_of, run_words, schedule_in, size_of, offset_of, scale_of}
 use Rattle.effs_words.specs.declared.command.Command.{Command}
@@ -76,7 +76,7 @@ judge_words (word ∷ rest) = judge_command (command_of word) rest
 
 -- ---- it finds what the relations say
 
-whole : (play : Bool) (workers : ℕ) (ws : List Word) (a : Asked) → Reads play workers ws a → 0 < length a.entries
+whole : (play : Bool) (workers : ℕ) (ws : List Word) (a : Asked) → AreOptions play workers ws a → 0 < length a.entries
     → judge play workers nothing 2 None ws ≡ Ok a
 whole play workers ws a reads some =
     ap (judge play workers nothing 2 None) (sym (append-nil ws)) ∙ reads_on play workers ws a reads [] ∙ at_end a.entries some
@@ -85,7 +85,7 @@ whole play workers ws a reads some =
     at_end [] none = absurd (omega arith)
     at_end (entry ∷ entries) some = refl
 
-broken : (play : Bool) (workers : ℕ) (read rest : List Word) (a : Asked) (e : WordError) → Reads play workers read a
+broken : (play : Bool) (workers : ℕ) (read rest : List Word) (a : Asked) (e : WordError) → AreOptions play workers read a
     → IsBadNext play workers a (place_after read) rest e → judge play workers nothing 2 None (read ++ rest) ≡ Err e
 broken play workers read rest a e reads wrong = reads_on play workers read a reads rest ∙ bad_is_told play workers a (place_after read) rest e wrong
 
@@ -132,7 +132,7 @@ line_of_run word ws named (bad read rest a e joined reads wrong) =
       e,
       subst (λ all. BadWord (word ∷ all) e) (sym joined)
           (words.run read rest a named
-          (subst (λ all. Reads false (entry_count false all) read a) joined reads)
+          (subst (λ all. AreOptions false (entry_count false all) read a) joined reads)
           (subst (λ all. IsBadNext false (entry_count false all) a (place_after read) rest e) joined wrong)),
     )
 
@@ -144,7 +144,7 @@ line_of_play word ws named (bad read rest a e joined reads wrong) =
       e,
       subst (λ all. BadWord (word ∷ all) e) (sym joined)
           (words.play read rest a named
-          (subst (λ all. Reads true (entry_count true all) read a) joined reads)
+          (subst (λ all. AreOptions true (entry_count true all) read a) joined reads)
           (subst (λ all. IsBadNext true (entry_count true all) a (place_after read) rest e) joined wrong)),
     )
 

@@ -5,7 +5,7 @@ use Rattle.std.proofs.lemmas.List.{drop_more, drop_all, take-map, take_more, len
 use Rattle.std.proofs.lemmas.Bool.Decides.{leb_tells}
 use Rattle.effs_words.specs.Numbers.{Word}
 use Rattle.effs_words.specs.Options.{Asked, option_of, takes_value, word_fault, value_fault, with_flag, with_value, values_of, told_if}
-use Rattle.effs_words.specs.Lines.{Reads, alone, valued, IsBadNext, unknown, misplaced, missing, bad_value, place_after}
+use Rattle.effs_words.specs.Lines.{AreOptions, alone, valued, IsBadNext, unknown, misplaced, missing, bad_value, place_after}
 use Rattle.effs_words.specs.Judged.{IsBadLine}
 use Rattle.effs_words.specs.declared.error.WordError.{WordError}
 use Rattle.effs_words.specs.declared.error.WordError.TheVariants as error
@@ -56,13 +56,13 @@ module _ {X : Type 0} (f : X → Word) (play : Bool) (workers : ℕ) (ws : List 
       omega (arith, length-take-le at (map f ws) inside)
 
   -- which names of watchers were read
-  pub watch_read : (at : ℕ) (a : Asked) → Reads play workers (take at (map f ws)) a → a.watch ≡ values_of play Watches None (map f (take at ws))
+  pub watch_read : (at : ℕ) (a : Asked) → AreOptions play workers (take at (map f ws)) a → a.watch ≡ values_of play Watches None (map f (take at ws))
   watch_read at a reads =
       sym (append-nil a.watch)
       ∙ sym (values_on play workers Watches (take at (map f ws)) a reads [])
       ∙ ap (values_of play Watches None) (append-nil (take at (map f ws)) ∙ take-map f at ws)
 
-  module _ (at : ℕ) (x : X) (lt : at < length ws) (is : x ≡ get_or ws at x) (a : Asked) (reads : Reads play workers (take at (map f ws)) a) where
+  module _ (at : ℕ) (x : X) (lt : at < length ws) (is : x ≡ get_or ws at x) (a : Asked) (reads : AreOptions play workers (take at (map f ws)) a) where
     line : (e : WordError) → IsBadNext play workers a (at + 2) (f x ∷ drop (at + 1) (map f ws)) e
         → IsBadLine play workers (take at (map f ws)) (drop at (map f ws)) e
     line e wrong = record {
@@ -98,13 +98,13 @@ module _ {X : Type 0} (f : X → Word) (play : Bool) (workers : ℕ) (ws : List 
       placed_sound : word_fault a (place_after (take at (map f ws))) name ≡ None
       placed_sound = ap (λ n. word_fault a n name) (place_at at (omega (arith, lt))) ∙ sym sound
 
-      pub read_alone : takes_value name ≡ false → Reads play workers (take (at + 1) (map f ws)) (with_flag a name)
+      pub read_alone : takes_value name ≡ false → AreOptions play workers (take (at + 1) (map f ws)) (with_flag a name)
       read_alone bare =
-          subst (λ front. Reads play workers front (with_flag a name)) (sym (one_word_more at x lt is))
+          subst (λ front. AreOptions play workers front (with_flag a name)) (sym (one_word_more at x lt is))
           (alone (take at (map f ws)) a (f x) name reads (sym named) placed_sound bare)
 
       pub read_valued : (y : X) → takes_value name ≡ true → at + 1 < length ws → y ≡ get_or ws (at + 1) y
-          → None ≡ value_fault workers a (at + 2) name (f y) → Reads play workers (take (at + 2) (map f ws)) (with_value a name (f y))
+          → None ≡ value_fault workers a (at + 2) name (f y) → AreOptions play workers (take (at + 2) (map f ws)) (with_value a name (f y))
       read_valued y taken more there fits =
           let two : at + 2 ≡ at + 1 + 1 = omega arith in
           let both : take (at + 2) (map f ws) ≡ take at (map f ws) ++ f x ∷ f y ∷ [] =
@@ -112,7 +112,7 @@ module _ {X : Type 0} (f : X → Word) (play : Bool) (workers : ℕ) (ws : List 
           ∙ one_word_more (at + 1) y more there
           ∙ ap (λ front. front ++ f y ∷ []) (one_word_more at x lt is)
           ∙ append_assoc (take at (map f ws)) (f x ∷ []) (f y ∷ []) in
-          subst (λ front. Reads play workers front (with_value a name (f y))) (sym both)
+          subst (λ front. AreOptions play workers front (with_value a name (f y))) (sym both)
           (valued (take at (map f ws)) a (f x) (f y) name reads (sym named) placed_sound taken
           (ap (λ n. value_fault workers a n name (f y)) (place_at at (omega (arith, lt))) ∙ sym fits))
 

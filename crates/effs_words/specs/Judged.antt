@@ -3,7 +3,7 @@ use Rattle.std.specs.Prelude.{◌≡◌, ℕ, ◌<◌, ◌≤◌, Result, Ok, Er
 use Rattle.std.specs.Option.{option_map, ForSome}
 use Rattle.effs_words.specs.Numbers.{Word}
 use Rattle.effs_words.specs.Options.{Asked, has_some, with_value, entry_count}
-use Rattle.effs_words.specs.Lines.{Reads, IsBadNext, place_after}
+use Rattle.effs_words.specs.Lines.{AreOptions, IsBadNext, place_after}
 use Rattle.effs_words.specs.Words.{Words, HasCause, IsMemory, run_words, schedule_in}
 use Rattle.effs_words.specs.declared.command.Command.{Command}
 use Rattle.effs_words.specs.declared.command.RunWords.{RunWords}
@@ -29,7 +29,7 @@ asked_of options entries watch = record {
 pub record Says (play : Bool) (workers : ℕ) (words : List Word) (options : Options) : Type 0 where
   pub entries : List Word
   pub watch : List Word
-  pub reads : Reads play workers words (asked_of options entries watch)
+  pub reads : AreOptions play workers words (asked_of options entries watch)
   pub counted : options.entries ≡ length entries
   pub watched : options.watched ≡ has_some watch
   pub few : options.entries ≤ 8
@@ -38,7 +38,7 @@ pub record Says (play : Bool) (workers : ℕ) (words : List Word) (options : Opt
 -- The words before are options, and the next of the line is the first bad one.
 pub record IsBadLine (play : Bool) (workers : ℕ) (before rest : List Word) (e : WordError) : Type 0 where
   pub asked : Asked
-  pub reads : Reads play workers before asked
+  pub reads : AreOptions play workers before asked
   pub bad : IsBadNext play workers asked (place_after before) rest e
 
 -- What a value changes in what options say, whatever names were given before.
@@ -61,7 +61,7 @@ pub record IsBadSomewhere (play : Bool) (workers : ℕ) (words : List Word) (e :
 -- What the options of a line ask for.
 pub record Asks (play : Bool) (workers : ℕ) (words : List Word) (run : RunWords) (list : List ℕ) : Type 0 where
   pub asked : Asked
-  pub reads : Reads play workers words asked
+  pub reads : AreOptions play workers words asked
   pub some : 0 < length asked.entries
   pub is : run ≡ run_words asked
   pub turns : list ≡ schedule_in workers asked.schedule

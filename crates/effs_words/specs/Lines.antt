@@ -10,17 +10,17 @@ use Rattle.effs_words.specs.declared.options.OptionName.{OptionName}
 abbrev pub place_after : List Word → ℕ
 place_after words = length words + 2
 
--- `Reads play workers words asked`: the words are options, each of which may stand after those before it, and they say this.
+-- `AreOptions play workers words asked`: the words are options, each of which may stand after those before it, and they say this.
 -- `workers` is how many entries the whole line names.
-pub data Reads (play : Bool) (workers : ℕ) : List Word → Asked → Type 0 where
-  start : Reads play workers [] nothing
-  alone : (words : List Word) (a : Asked) (word : Word) (name : OptionName) → Reads play workers words a
+pub data AreOptions (play : Bool) (workers : ℕ) : List Word → Asked → Type 0 where
+  start : AreOptions play workers [] nothing
+  alone : (words : List Word) (a : Asked) (word : Word) (name : OptionName) → AreOptions play workers words a
       → option_of play word ≡ Some name → word_fault a (place_after words) name ≡ None → takes_value name ≡ false
-      → Reads play workers (words ++ word ∷ []) (with_flag a name)
-  valued : (words : List Word) (a : Asked) (word value : Word) (name : OptionName) → Reads play workers words a
+      → AreOptions play workers (words ++ word ∷ []) (with_flag a name)
+  valued : (words : List Word) (a : Asked) (word value : Word) (name : OptionName) → AreOptions play workers words a
       → option_of play word ≡ Some name → word_fault a (place_after words) name ≡ None → takes_value name ≡ true
       → value_fault workers a (place_after words) name value ≡ None
-      → Reads play workers (words ++ word ∷ value ∷ []) (with_value a name value)
+      → AreOptions play workers (words ++ word ∷ value ∷ []) (with_value a name value)
 
 -- `IsBadNext play workers asked n words e`: after options that say this, the next of the line's words, which is word n, is the
 -- first bad one, or its value is; or no word is left, and no entry was named.

@@ -4,7 +4,7 @@ use Rattle.std.specs.Str.{bytes_eq}
 use Rattle.effs_words.specs.Numbers.{Word, number_in}
 use Rattle.effs_words.specs.Schedules.{schedule_of}
 use Rattle.effs_words.specs.Options.{Asked, entry_count}
-use Rattle.effs_words.specs.Lines.{Reads, IsBadNext, place_after}
+use Rattle.effs_words.specs.Lines.{AreOptions, IsBadNext, place_after}
 use Rattle.effs_words.specs.declared.command.Command.{Command}
 use Rattle.effs_words.specs.declared.command.Command.TheVariants as command
 use Rattle.effs_words.specs.declared.command.RunWords.{RunWords}
@@ -54,10 +54,10 @@ scale_of word = number_in 1 2000 word
 -- `Words words command`: the words ask for this.
 pub data Words : List Word → Command → Type 0 where
   run : {word : Word} {words : List Word} (a : Asked) → command_of word ≡ Some Run
-      → Reads false (entry_count false words) words a → 0 < length a.entries
+      → AreOptions false (entry_count false words) words a → 0 < length a.entries
       → Words (word ∷ words) (command.Run (run_words a))
   play : {word : Word} {words : List Word} (a : Asked) → command_of word ≡ Some Play
-      → Reads true (entry_count true words) words a → 0 < length a.entries
+      → AreOptions true (entry_count true words) words a → 0 < length a.entries
       → Words (word ∷ words) (command.Play (run_words a) (schedule_in (entry_count true words) a.schedule))
   layout : {word elem size offset want : Word} {s k : ℕ} → command_of word ≡ Some Layout
       → size_of size ≡ Some s → offset_of offset ≡ Some k
@@ -72,11 +72,11 @@ pub data BadWord : List Word → WordError → Type 0 where
   no_command : BadWord [] error.NoCommand
   unknown : {word : Word} {words : List Word} → command_of word ≡ None → BadWord (word ∷ words) (error.UnknownWord 1)
   run : {word : Word} {e : WordError} (read words : List Word) (a : Asked) → command_of word ≡ Some Run
-      → Reads false (entry_count false (read ++ words)) read a
+      → AreOptions false (entry_count false (read ++ words)) read a
       → IsBadNext false (entry_count false (read ++ words)) a (place_after read) words e
       → BadWord (word ∷ (read ++ words)) e
   play : {word : Word} {e : WordError} (read words : List Word) (a : Asked) → command_of word ≡ Some Play
-      → Reads true (entry_count true (read ++ words)) read a
+      → AreOptions true (entry_count true (read ++ words)) read a
       → IsBadNext true (entry_count true (read ++ words)) a (place_after read) words e
       → BadWord (word ∷ (read ++ words)) e
   -- `layout` takes four words

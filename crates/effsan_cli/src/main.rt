@@ -1,15 +1,14 @@
 // The command `effsan`: the real streams round the top call.
 #![tactic(auto)]
 
-use effsan_top::{InSource, OutSink, effsan_still};
+use effsan_top::{
+    FINISHED, InSource, OUT_OF_MEMORY, OutSink, REPORTED, STOPPED, WRITE_FAULT, effsan_still,
+};
 use std::io::{ErrorKind, Write};
 use std::process::ExitCode;
 use std::{env, io};
 
-const WRITE_FAULT: u8 = 5;
-
-const OUT_OF_MEMORY: u8 = 6;
-
+/// The status where the words cannot be got, which the top call never answers.
 const NO_WORDS: u8 = 10;
 
 /// The words after the program's name.
@@ -29,7 +28,7 @@ fn run(rt: &HostRuntime, words: &[String]) -> u8 {
     let mut err = OutSink::new(rt.stderr());
     let status = effsan_still(rt.alloc(), words, &mut src, &mut out, &mut err).status;
     match (out.into_inner().flush(), status) {
-        (Err(_), 0 | 1 | 5 | 8) => WRITE_FAULT,
+        (Err(_), FINISHED | REPORTED | STOPPED | WRITE_FAULT) => WRITE_FAULT,
         _ => status,
     }
 }

@@ -2,7 +2,7 @@ use Rattle.std.proofs.Common.{map, subst, inl, inr, refl, arith}
 use Rattle.std.specs.Prelude.{string_bytes}
 use Rattle.std.proofs.lemmas.Result.{err_from_is_err_and}
 use Rattle.effs_words.specs.Judged.{IsBadSomewhere, asked_of}
-use Rattle.effs_words.specs.Lines.{Reads}
+use Rattle.effs_words.specs.Lines.{AreOptions}
 use Rattle.effs_words.specs.Options.{entry_count}
 use Rattle.effs_words.specs.Words.{run_words, schedule_in}
 use Rattle.effs_words.proofs.build.read_line.Goals as goal
@@ -24,7 +24,7 @@ returns-in_err-ask_for-clause-refused c =
       list = schedule_in (entry_count c.args.play ws) asked.schedule;
       asks = record {
         asked = asked;
-        reads = subst (λ n. Reads c.args.play n ws asked) c.entry_count.ensures said.reads;
+        reads = subst (λ n. AreOptions c.args.play n ws asked) c.entry_count.ensures said.reads;
         some = omega (arith, c.in_ok-options.ensures.read.1, said.counted);
         is = refl;
         turns = refl;

@@ -4,7 +4,7 @@ use Rattle.std.specs.Option.{ForSome}
 use Rattle.std.proofs.lemmas.List.{get_or_default}
 use Rattle.std.proofs.lemmas.Grind.{common_steps}
 use Rattle.effs_words.specs.Options.{takes_value, with_value}
-use Rattle.effs_words.specs.Lines.{Reads}
+use Rattle.effs_words.specs.Lines.{AreOptions}
 use Rattle.effs_words.specs.Judged.{asked_of}
 use Rattle.effs_words.proofs.Steps.{few_after, watch_read, unknown_next, misplaced_next, missing_next, bad_value_next, read_alone, read_valued}
 use Rattle.effs_words.proofs.judge.Line.read_option.Goals as goal
@@ -32,7 +32,7 @@ returns-then-not-takes_value-clause-read c =
     record {
       entries = said.entries;
       watch = said.watch;
-      reads = subst (λ a. Reads c.args.self.now.play c.args.self.now.workers (take (c.args.at + 1) (map string_bytes c.args.self.now.words.now)) a)
+      reads = subst (λ a. AreOptions c.args.self.now.play c.args.self.now.workers (take (c.args.at + 1) (map string_bytes c.args.self.now.words.now)) a)
           (sym (c.set_flag.ensures.asked said.entries said.watch)) reads;
       counted = c.set_flag.ensures.entries ∙ said.counted;
       watched = c.set_flag.ensures.watched ∙ said.watched;
@@ -78,7 +78,7 @@ returns-clause-read c =
     record {
       entries = after.entries;
       watch = after.watch;
-      reads = subst (λ a. Reads c.args.self.now.play c.args.self.now.workers (take (c.args.at + 2) (map string_bytes c.args.self.now.words.now)) a)
+      reads = subst (λ a. AreOptions c.args.self.now.play c.args.self.now.workers (take (c.args.at + 2) (map string_bytes c.args.self.now.words.now)) a)
           (sym (c.set_value.ensures.asked said.entries said.watch)) reads;
       counted = counted;
       watched = c.set_value.ensures.watched said.entries said.watch said.watched;
