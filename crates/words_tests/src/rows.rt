@@ -4,7 +4,7 @@ use effs_words::{Command, RunWords, read_words};
 use std::alloc::{AllocError, Global};
 use std::test::Fail;
 
-/// A line, its words parted by one space, and the answer.
+/// A line, its words parted by one space, and the answer. `''` is a word without bytes, and `_` a blank within a word.
 struct Row {
     line: &'static str,
     answer: &'static str,
@@ -307,12 +307,187 @@ static ROWS: [Row; 72] = [
     },
 ];
 
+static FURTHER_ROWS: [Row; 39] = [
+    // values that are missing
+    Row {
+        line: "run --setup",
+        answer: "MissingValue(2)",
+    },
+    Row {
+        line: "run --finish",
+        answer: "MissingValue(2)",
+    },
+    Row {
+        line: "run --watch",
+        answer: "MissingValue(2)",
+    },
+    Row {
+        line: "play --schedule",
+        answer: "MissingValue(2)",
+    },
+    Row {
+        line: "play --entry f --record --turns",
+        answer: "MissingValue(5)",
+    },
+    // options that stand again, or do not go together
+    Row {
+        line: "play --turns 7 --turns 7 --entry f",
+        answer: "Repeated(4)",
+    },
+    Row {
+        line: "play --schedule 1 --entry f --schedule 1",
+        answer: "Repeated(6)",
+    },
+    Row {
+        line: "run --setup a --setup b",
+        answer: "Repeated(4)",
+    },
+    Row {
+        line: "run --finish a --finish b",
+        answer: "Repeated(4)",
+    },
+    Row {
+        line: "run --bytes --watch a",
+        answer: "Excluded(3)",
+    },
+    Row {
+        line: "run --bytes --bytes --watch a",
+        answer: "Repeated(3)",
+    },
+    // numbers of none to eleven digits
+    Row {
+        line: "play --turns '' --entry f",
+        answer: "BadNumber(3)",
+    },
+    Row {
+        line: "play --turns 4 --entry f",
+        answer: "play 1 turns 4 watch 0 turn 0",
+    },
+    Row {
+        line: "play --turns 44 --entry f",
+        answer: "play 1 turns 44 watch 0 turn 0",
+    },
+    Row {
+        line: "play --turns 444 --entry f",
+        answer: "play 1 turns 444 watch 0 turn 0",
+    },
+    Row {
+        line: "play --turns 4444 --entry f",
+        answer: "play 1 turns 4444 watch 0 turn 0",
+    },
+    Row {
+        line: "play --turns 44444 --entry f",
+        answer: "play 1 turns 44444 watch 0 turn 0",
+    },
+    Row {
+        line: "play --turns 444444 --entry f",
+        answer: "play 1 turns 444444 watch 0 turn 0",
+    },
+    Row {
+        line: "play --turns 4444444 --entry f",
+        answer: "play 1 turns 4444444 watch 0 turn 0",
+    },
+    Row {
+        line: "play --turns 04444444 --entry f",
+        answer: "play 1 turns 4444444 watch 0 turn 0",
+    },
+    Row {
+        line: "play --turns 004444444 --entry f",
+        answer: "play 1 turns 4444444 watch 0 turn 0",
+    },
+    Row {
+        line: "play --turns 0004444444 --entry f",
+        answer: "play 1 turns 4444444 watch 0 turn 0",
+    },
+    Row {
+        line: "play --turns 00004444444 --entry f",
+        answer: "BadNumber(3)",
+    },
+    Row {
+        line: "play --turns -4 --entry f",
+        answer: "BadNumber(3)",
+    },
+    // blanks and empty words
+    Row {
+        line: "play --turns _4 --entry f",
+        answer: "BadNumber(3)",
+    },
+    Row {
+        line: "play --turns 4_ --entry f",
+        answer: "BadNumber(3)",
+    },
+    Row {
+        line: "_play --entry f",
+        answer: "UnknownWord(1)",
+    },
+    Row {
+        line: "play_ --entry f",
+        answer: "UnknownWord(1)",
+    },
+    Row {
+        line: "'' --entry f",
+        answer: "UnknownWord(1)",
+    },
+    Row {
+        line: "play '' --entry f",
+        answer: "UnknownWord(2)",
+    },
+    Row {
+        line: "play --entry '' --turns 4",
+        answer: "play 1 turns 4 watch 0 turn 0",
+    },
+    // parts of schedules
+    Row {
+        line: "play --schedule '' --entry f",
+        answer: "BadNumber(3)",
+    },
+    Row {
+        line: "play --schedule 1, --entry f",
+        answer: "BadNumber(3)",
+    },
+    Row {
+        line: "play --schedule ,1 --entry f",
+        answer: "BadNumber(3)",
+    },
+    Row {
+        line: "play --schedule 1_*2 --entry f",
+        answer: "BadNumber(3)",
+    },
+    Row {
+        line: "play --schedule 01*02 --entry f",
+        answer: "play 1 turns 1000000 watch 0 turn 2",
+    },
+    Row {
+        line: "play --schedule 1*00000000001 --entry f",
+        answer: "BadNumber(3)",
+    },
+    Row {
+        line: "play --schedule 1*100000 --entry f",
+        answer: "play 1 turns 1000000 watch 0 turn 100000",
+    },
+    Row {
+        line: "play --schedule 1*100001 --entry f",
+        answer: "BadNumber(3)",
+    },
+];
+
+/// A word as it is given.
+fn word_of(alloc: Global, spelled: &str) -> Result<String, AllocError> {
+    let mut word = String::new(alloc);
+    if spelled != "''" {
+        for letter in spelled.chars() {
+            word.push(if letter == '_' { ' ' } else { letter })?;
+        }
+    }
+    Ok(word)
+}
+
 /// The words of a line.
 fn words_of(alloc: Global, line: &str) -> Result<Vec<String>, AllocError> {
     let mut words = Vec::new(alloc);
     for word in line.split(' ') {
         if !word.is_empty() {
-            words.push(String::from_str(alloc, word)?)?;
+            words.push(word_of(alloc, word)?)?;
         }
     }
     Ok(words)
@@ -371,7 +546,7 @@ fn answer(alloc: Global, line: &str) -> Result<String, AllocError> {
 
 #[test]
 fn each_line_has_its_answer(rt: HostRuntime) -> Result<(), Fail> {
-    for row in &ROWS {
+    for row in ROWS.iter().chain(FURTHER_ROWS.iter()) {
         let answer = answer(rt.alloc(), row.line)?;
         assert_eq!(rt; answer.as_str(), row.answer);
     }
