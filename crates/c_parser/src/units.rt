@@ -29,7 +29,7 @@ use c_grammar::{
     Block, Declaration, External, Function, MAX_DEPTH, NameKind, Naming, TypeName, TypePhrase, Unit,
 };
 use c_tokens::{Mark, Token};
-use c_types::Text;
+use byte_texts::Text;
 use grammar_descent::law_readers;
 use sqlite_items::Items;
 use std::alloc::{AllocError, Global};

@@ -4,7 +4,7 @@ ghost use Rattle.std.specs.Prelude.{◌≡◌, [], ◌∷◌, ◌++◌, IfOk, On
 
 use crate::machine::{Effect, State};
 use crate::parts::Part;
-use c_types::Text;
+use byte_texts::Text;
 use std::alloc::{AllocError, Global};
 use std::mem;
 

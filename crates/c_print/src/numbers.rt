@@ -8,7 +8,7 @@ ghost use Rattle.c_print.specs.Numbers.{IsNumber, printed, filled, bare, signed,
 
 use crate::parts::{Flag, Letter, Part};
 use arrayvec::ArrayVec;
-use c_types::Text;
+use byte_texts::Text;
 use itoa::Buffer;
 use std::alloc::AllocError;
 

@@ -1,6 +1,6 @@
 //! What a format is made of.
 
-use c_types::Text;
+use byte_texts::Text;
 
 /// What a conversion of a number prints: a signed number in decimal (`d` and `i`), an unsigned one in decimal (`u`) or in
 /// hexadecimal (`x`), or a byte (`c`).

@@ -1,7 +1,7 @@
 //! Formats by hand, and texts against C's printf.
 
 use crate::{Flag, FormatError, Letter, Part, parts_of, print_part, print_text};
-use c_types::Text;
+use byte_texts::Text;
 use std::alloc::{AllocError, Global};
 use std::test::Fail;
 

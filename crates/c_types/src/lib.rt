@@ -2,7 +2,6 @@
 #![tactic(auto)]
 
 mod table;
-mod text;
 
 pub use table::{CType, Member, TypeNo, TypeTable, law_table};
-pub use text::Text;
+pub use byte_texts::Text;

@@ -5,7 +5,7 @@ ghost use Rattle.c_types.specs.declared.table.CType.TheVariants.{Pointer};
 ghost use Rattle.c_types.specs.Shapes.{size_of_shape, alignment_of_shape};
 ghost use Rattle.c_types.specs.Table.{IsNumber, IsScalar, IsTable, IsAdded, basic_types, kind_of, shape_of};
 
-use crate::text::Text;
+use byte_texts::Text;
 use std::alloc::{AllocError, Global};
 use std::marker::Model;
 

@@ -17,7 +17,7 @@ use crate::numbers::number_in;
 use crate::options::{CommandName, command_named};
 use crate::schedule::{is_schedule, read_schedule};
 use crate::values::{Listed, entry_count, text_of, values_of};
-use c_types::Text;
+use byte_texts::Text;
 use sqlite_items::Items;
 use std::alloc::{AllocError, Global};
 

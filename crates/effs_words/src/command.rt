@@ -1,6 +1,6 @@
 //! What the words ask for.
 
-use c_types::Text;
+use byte_texts::Text;
 use sqlite_items::Items;
 
 /// What the words ask the program to do.

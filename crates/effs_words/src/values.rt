@@ -6,7 +6,7 @@ ghost use Rattle.std.specs.Str.{bytes_eq};
 ghost use Rattle.effs_words.specs.Options as spec;
 
 use crate::options::{OptionName, option_named, takes_value};
-use c_types::Text;
+use byte_texts::Text;
 use sqlite_items::Items;
 use std::alloc::{AllocError, Global};
 

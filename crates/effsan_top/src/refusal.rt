@@ -13,7 +13,7 @@ use crate::program::ProgramError;
 use crate::statuses::{
     OUT_OF_MEMORY, READ_FAULT, TEXT_REFUSED, TOO_LARGE, WORDS_REFUSED, WRITE_FAULT,
 };
-use c_types::Text;
+use byte_texts::Text;
 use effs_io::{Failed, ReadError, Sink, write_all};
 use effs_words::WordError;
 use itoa::Buffer;

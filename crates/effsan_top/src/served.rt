@@ -7,7 +7,7 @@ ghost use Rattle.effsan_top.specs.Steps.{HasWordsCause};
 ghost use Rattle.effsan_top.specs.declared.served.SoloPlay.{SoloPlay as Play};
 
 use crate::refusal::Refusal;
-use c_types::Text;
+use byte_texts::Text;
 use effs_words::{Command, RunWords, WordError, law_watches, law_words, read_words, watch_place};
 use sqlite_items::Items;
 use std::alloc::Global;

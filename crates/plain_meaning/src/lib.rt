@@ -7,7 +7,7 @@ mod record;
 mod scalar;
 mod tree;
 
-pub use c_types::Text;
+pub use byte_texts::Text;
 pub use laws::{
     law_nothing_lost, law_prefix, law_reported, law_spent, law_turns_looked_at, law_wants,
 };

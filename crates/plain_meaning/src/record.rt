@@ -1,6 +1,7 @@
 //! The record of a run.
 
-use c_types::{Text, TypeNo};
+use byte_texts::Text;
+use c_types::TypeNo;
 use heap_model::{History, Reach, ReportKind};
 use sqlite_items::Items;
 

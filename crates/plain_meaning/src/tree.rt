@@ -1,6 +1,6 @@
 //! The typed tree of a program of numbers and pointers.
 
-use c_types::Text;
+use byte_texts::Text;
 use sqlite_items::{Boxed, Items};
 
 /// The operators on whole numbers (C11 6.5.5, 6.5.6, 6.5.8, 6.5.9).

@@ -10,7 +10,7 @@ ghost use Rattle.program_form.specs.Programs.{IsForm, IsOutside, Forms};
 use crate::error::{FormError, Unfit};
 use crate::statements::block;
 use c_grammar::{Declarator, External, Function as Syntax, MAX_DEPTH, Unit};
-use c_types::Text;
+use byte_texts::Text;
 use form_parts::{Scope, declared_name, is_reserved, is_void};
 use plain_meaning::{Function, Program};
 use scoped_names::Names;

@@ -10,7 +10,7 @@ use crate::numbering::Numbering;
 use crate::table::{Table, predefined_names};
 use crate::texts::TokenTexts;
 use c_tokens::Token;
-use c_types::Text;
+use byte_texts::Text;
 use std::alloc::{AllocError, Global};
 
 /// The texts of the tokens of the name of a type, and the numbers of the names of types that are given, in their order.

@@ -4,7 +4,7 @@ ghost use Rattle.std.specs.Prelude.{◌≡◌, [], fold, map, Some, slice_get, I
 ghost use Rattle.token_texts.specs.Texts.{with_one, distinct};
 ghost use Rattle.token_texts.specs.Names.{predefined};
 
-use c_types::Text;
+use byte_texts::Text;
 use std::alloc::{AllocError, Global};
 use std::collections::BTreeMap;
 use std::marker::Model;

@@ -2,7 +2,7 @@
 
 ghost use Rattle.std.specs.Prelude.{◌≡◌, length};
 
-use c_types::Text;
+use byte_texts::Text;
 use std::marker::Model;
 
 /// The names and the strings of a text, each once, and the number that each token has among them: of a name among the

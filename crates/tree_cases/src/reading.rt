@@ -13,7 +13,7 @@ use c_lexer::{LexError, law_strings, lex};
 use c_parser::{ParseError, parse, parse_type_name};
 use c_pp::{PpError, expand};
 use c_tokens::{MAX_SOURCE_BYTES, Token};
-use c_types::Text;
+use byte_texts::Text;
 use std::alloc::{AllocError, Global};
 
 /// Why a text becomes no tokens.

@@ -9,7 +9,7 @@ ghost use Rattle.tree_walk.specs.Steps.{EndsAs};
 
 use crate::stop::Stop;
 use crate::walk::Walk;
-use c_types::Text;
+use byte_texts::Text;
 use plain_meaning::{Ending, Function, Program, Record, Setting};
 use region_heaps::{RegionHeaps, law_history};
 use sqlite_items::Items;

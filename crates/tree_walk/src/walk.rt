@@ -11,7 +11,7 @@ ghost use Rattle.tree_walk.specs.Steps.{Leads, IsAsked, IsNoReport, no_value};
 
 use crate::reports::Subject;
 use crate::stop::Stop;
-use c_types::Text;
+use byte_texts::Text;
 use heap_model::{Call, Reply};
 use plain_meaning::{CheckedPointer, Ending, Scalar};
 use region_heaps::RegionHeaps;
