@@ -25,11 +25,11 @@ use crate::declarations::{NamedDeclarator, init_declarators, named_declarator};
 use crate::phrases;
 use crate::refused::refused_within;
 use crate::statements::block;
+use byte_texts::Text;
 use c_grammar::{
     Block, Declaration, External, Function, MAX_DEPTH, NameKind, Naming, TypeName, TypePhrase, Unit,
 };
 use c_tokens::{Mark, Token};
-use byte_texts::Text;
 use grammar_descent::law_readers;
 use sqlite_items::Items;
 use std::alloc::{AllocError, Global};

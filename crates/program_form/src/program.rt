@@ -9,8 +9,8 @@ ghost use Rattle.program_form.specs.Programs.{IsForm, IsOutside, Forms};
 
 use crate::error::{FormError, Unfit};
 use crate::statements::block;
-use c_grammar::{Declarator, External, Function as Syntax, MAX_DEPTH, Unit};
 use byte_texts::Text;
+use c_grammar::{Declarator, External, Function as Syntax, MAX_DEPTH, Unit};
 use form_parts::{Scope, declared_name, is_reserved, is_void};
 use plain_meaning::{Function, Program};
 use scoped_names::Names;

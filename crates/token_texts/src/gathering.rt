@@ -9,8 +9,8 @@ ghost use Rattle.token_texts.specs.Texts.{AreTexts, AreTextsWith, AreTextsFrom, 
 use crate::numbering::Numbering;
 use crate::table::{Table, predefined_names};
 use crate::texts::TokenTexts;
-use c_tokens::Token;
 use byte_texts::Text;
+use c_tokens::Token;
 use std::alloc::{AllocError, Global};
 
 /// The texts of the tokens of the name of a type, and the numbers of the names of types that are given, in their order.

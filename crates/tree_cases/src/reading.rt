@@ -8,12 +8,12 @@ use crate::phrases::type_phrase;
 use crate::script::{Script, View};
 use crate::sketch::Sketch;
 use crate::statements::{items, unit};
+use byte_texts::Text;
 use c_grammar::{External, Unit};
 use c_lexer::{LexError, law_strings, lex};
 use c_parser::{ParseError, parse, parse_type_name};
 use c_pp::{PpError, expand};
 use c_tokens::{MAX_SOURCE_BYTES, Token};
-use byte_texts::Text;
 use std::alloc::{AllocError, Global};
 
 /// Why a text becomes no tokens.
