@@ -1,0 +1,15 @@
+use Rattle.std.proofs.Common.{◌≡◌, ◌+◌, ◌≤◌, ◌<◌, ◌||◌, ◌∷◌, [], max, map, IfOk, IsFalse, ℕ, ◌-◌, ◌*◌, length}
+use Rattle.c_types.specs.declared.kinds.TypeError.TheVariants as why
+use Rattle.c_types.specs.Shapes as trees
+use Rattle.c_types.specs.Adding as spec
+use Rattle.c_types.specs.Table.{fields_of, shape_of, members_of_fields}
+use Rattle.c_types.specs.Adding.{any, first_of, shapes, members_fault, fault_beside, tag_of}
+use Rattle.c_types.specs.Calls.{Refuses, IsTagOf, AreFields}
+use Rattle.c_types.specs.Rows.{IsLaid, IsSmall, field_of, has_form, members_as}
+use Rattle.c_types.specs.Extents.{offset_after, extent_of, too_large, row_within}
+use Rattle.std.proofs.Common.{take}
+use Rattle.c_types.proofs.Names.{AreSeen}
+use Rattle.c_types.proofs.fields.has_two_of_a_name.Given as goal
+
+abbrev pub invariant-loop-field : goal.invariant-loop-field
+invariant-loop-field l = AreSeen l.names (take l.field-index l.fields)
