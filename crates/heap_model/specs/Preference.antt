@@ -1,7 +1,6 @@
 -- The preferred bounds, as the heap asks for them.
-use Rattle.std.specs.Prelude.{ℕ, List, Option}
-use Rattle.c_types.specs.declared.table.CType.{CType}
-use Rattle.c_types.specs.Table.{shape_of}
+use Rattle.std.specs.Prelude.{ℕ, Option}
+use Rattle.c_types.specs.Table.{Types, shape_of}
 use Rattle.type_layout.specs.Preferred.{pref}
 use Rattle.type_layout.specs.declared.preference.Bounds.{Bounds}
 
@@ -10,5 +9,5 @@ abbrev pub Preference : Type 0
 Preference = ℕ → ℕ → ℕ → ℕ → Option Bounds
 
 -- the preferred bounds over the types of a table, by their numbers
-abbrev pub preference_of : List CType → Preference
+abbrev pub preference_of : Types → Preference
 preference_of types elem size k want = pref (shape_of types elem) size k (shape_of types want)

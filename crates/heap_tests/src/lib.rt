@@ -6,4 +6,8 @@ mod heap;
 #[cfg(test)]
 mod layout;
 #[cfg(test)]
+mod made_types;
+#[cfg(test)]
+mod members;
+#[cfg(test)]
 mod numbers;

@@ -4,7 +4,7 @@ use Rattle.std.proofs.Math.ListN.{get_or-append}
 use Rattle.std.proofs.Math.Seq.{get_or-append_seam}
 use Rattle.std.proofs.lemmas.List.{get_or_default}
 use Rattle.std.proofs.lemmas.Bool.{cases_eq}
-use Rattle.c_types.specs.declared.table.CType.{CType}
+use Rattle.c_types.specs.Table.{Types}
 use Rattle.heap_model.specs.Answers.{Words, next}
 use Rattle.heap_model.specs.Forms.{suits_call}
 use Rattle.heap_model.specs.Legal.{Answers}
@@ -103,7 +103,7 @@ heap_of-set_other heaps r (suc m) heap low apart =
     get_or-set_other heaps (r - 1) m heap no_heap other
 
 -- what the heap of a region does, as a step of all heaps
-module _ (types : List CType) (heaps : List State) (r : ℕ) (call : Call) (was now : State)
+module _ (types : Types) (heaps : List State) (r : ℕ) (call : Call) (was now : State)
     (low : 1 ≤ r) (high : r ≤ length heaps) (was_is : was ≡ heap_of heaps r) (region_is : (heap_of heaps r).region ≡ r)
     (elements : KnowsElements types now) (same_region : now.region ≡ was.region) where
   here : heap_of (set heaps (r - 1) now) r ≡ now

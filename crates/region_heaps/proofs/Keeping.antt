@@ -2,7 +2,7 @@
 use Rattle.std.proofs.Common.{◌≡◌, ◌≢◌, ℕ, ◌+◌, true, List, [], ◌∷◌, ◌++◌, length, Some, refl, sym, ap, ◌∙◌, subst, arith, ◌⊎◌, inl, inr, length-append}
 use Rattle.std.proofs.lemmas.Bool.{cases_eq}
 use Rattle.std.proofs.lemmas.Option.{none-some}
-use Rattle.c_types.specs.declared.table.CType.{CType}
+use Rattle.c_types.specs.Table.{Types}
 use Rattle.heap_model.specs.Forms.{fits_call, region_for}
 use Rattle.heap_model.specs.Heap.{empty}
 use Rattle.heap_model.specs.Legal.{IsLegal, Meets, of_region, own, replay}
@@ -19,11 +19,11 @@ use Rattle.region_heaps.proofs.Pushed.{of_region-push_here, of_region-push_there
 
 -- ---- at first
 
-KnowsElements-none : (types : List CType) (heap : State) → heap.states ≡ [] → KnowsElements types heap
+KnowsElements-none : (types : Types) (heap : State) → heap.states ≡ [] → KnowsElements types heap
 KnowsElements-none types heap none n object is =
     absurd (none-some _ (sym (ap (λ (states : List SlotState). (state_at states n).body) none) ∙ is))
 
-pub Keeps-none : (types : List CType) (heaps : List State) (counts : ℕ → ℕ) → length heaps ≡ 27 → AreEmpty heaps 27 → ((w : ℕ) → counts w ≡ 0) → Keeps types heaps counts []
+pub Keeps-none : (types : Types) (heaps : List State) (counts : ℕ → ℕ) → length heaps ≡ 27 → AreEmpty heaps 27 → ((w : ℕ) → counts w ≡ 0) → Keeps types heaps counts []
 Keeps-none types heaps counts count are_empty none = record {
   count = count;
   each = λ r low high.
@@ -37,7 +37,7 @@ Keeps-none types heaps counts count are_empty none = record {
 
 -- ---- where nothing was added
 
-pub Keeps-along : {types : List CType} {heaps : List State} {counts : ℕ → ℕ} {history : List Entry}
+pub Keeps-along : {types : Types} {heaps : List State} {counts : ℕ → ℕ} {history : List Entry}
     → Keeps types heaps counts history
     → (heaps' : List State) → heaps' ≡ heaps
     → (counts' : ℕ → ℕ) → ((w : ℕ) → counts' w ≡ counts w)
@@ -56,7 +56,7 @@ Keeps-along {types} {heaps} {counts} {history} keeps heaps' same_heaps counts' s
 
 -- ---- after a call
 
-module _ (types : List CType) (old new : List State) (history : List Entry) (e : Entry)
+module _ (types : Types) (old new : List State) (history : List Entry) (e : Entry)
     (home : region_for e.call ≡ Some e.region) (fits : fits_call e.call ≡ true) (steps : Steps types old new e.region e.call e.reply) where
   here : IsHeapOf types (heap_of old e.region) e.region (of_region e.region history) → IsHeapOf types (heap_of new e.region) e.region (of_region e.region (history ++ e ∷ []))
   here was =

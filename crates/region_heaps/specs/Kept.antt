@@ -1,7 +1,6 @@
 -- What is kept true of the heaps of the regions with their history.
 use Rattle.std.specs.Prelude.{◌≡◌, ℕ, ◌≤◌, List, length}
-use Rattle.c_types.specs.declared.table.CType.{CType}
-use Rattle.c_types.specs.Table.{basic_types}
+use Rattle.c_types.specs.Table.{Types, basic_types}
 use Rattle.heap_model.specs.Heap.{empty}
 use Rattle.heap_model.specs.Legal.{InRegions, IsLegal, IsWellNumbered, of_region, own, replay}
 use Rattle.heap_model.specs.Preference.{preference_of}
@@ -19,14 +18,14 @@ abbrev pub entries : Inside → List Entry
 entries a = a.history.entries
 
 -- A heap is that of a region whose entries are these: they are legal, and it stands for the heap that they leave.
-pub record IsHeapOf (types : List CType) (heap : State) (region : ℕ) (history : List Entry) : Type 0 where
+pub record IsHeapOf (types : Types) (heap : State) (region : ℕ) (history : List Entry) : Type 0 where
   pub region_is : heap.region ≡ region
   pub legal : IsLegal (preference_of types) history
   pub stands : StandsFor heap (replay empty history)
   pub elements : KnowsElements types heap
 
 -- Each region's heap is that of its entries, and each worker's count that of its entries.
-pub record Keeps (types : List CType) (heaps : List State) (counts : ℕ → ℕ) (history : List Entry) : Type 0 where
+pub record Keeps (types : Types) (heaps : List State) (counts : ℕ → ℕ) (history : List Entry) : Type 0 where
   pub count : length heaps ≡ last_region
   pub each : (region : ℕ) → 1 ≤ region → region ≤ last_region → IsHeapOf types (heap_of heaps region) region (of_region region history)
   pub counts_are : (worker : ℕ) → counts worker ≡ length (own history worker)

@@ -1,6 +1,6 @@
 -- The heaps of the regions, as a list from region 1 on.
 use Rattle.std.specs.Prelude.{◌≡◌, ◌≢◌, ℕ, zero, suc, ◌≤◌, List, [], get_or, true}
-use Rattle.c_types.specs.declared.table.CType.{CType}
+use Rattle.c_types.specs.Table.{Types}
 use Rattle.heap_model.specs.Heap.{empty}
 use Rattle.heap_model.specs.Answers.{Words, next}
 use Rattle.heap_model.specs.Forms.{suits_call}
@@ -30,7 +30,7 @@ abbrev pub AreEmpty : List State → ℕ → Type 0
 AreEmpty heaps last = (region : ℕ) → 1 ≤ region → region ≤ last → IsEmptyHeap (heap_of heaps region) region
 
 -- A call is answered by the heap of a region, and changes that heap alone.
-pub record Steps (types : List CType) (old new : List State) (region : ℕ) (call : Call) (reply : Reply) : Type 0 where
+pub record Steps (types : Types) (old new : List State) (region : ℕ) (call : Call) (reply : Reply) : Type 0 where
   pub others : (r : ℕ) → r ≢ region → heap_of new r ≡ heap_of old r
   pub region_is : (heap_of new region).region ≡ region
   pub answers : (h : Words) → StandsFor (heap_of old region) h → Answers (preference_of types) h region call reply

@@ -2,8 +2,8 @@
 use Rattle.std.proofs.Common.{◌≡◌, ℕ, ◌+◌, ◌-◌, ◌*◌, ◌^◌, false, List, [], ◌∷◌, ◌++◌, refl}
 use Rattle.std.specs.Prelude.{codes}
 use Rattle.std.specs.Fmt.{digits}
-use Rattle.c_types.specs.Table.{basic_types}
-use Rattle.c_types.specs.declared.table.CType.TheVariants.{Pointer}
+use Rattle.c_types.specs.Table.{basic_kinds, basic_types}
+use Rattle.c_types.specs.declared.kinds.CType.TheVariants.{Pointer}
 use Rattle.heap_model.specs.Regions.{slot_of, slot_in, region_of, address_of, version_of, first_multiple, size_of, sizes, slots, slot_address, offset_in}
 use Rattle.heap_model.specs.declared.calls.Reach.{Reach}
 use Rattle.heap_model.specs.declared.calls.Call.TheVariants.{Alloc}
@@ -67,6 +67,6 @@ three_workers : lines_from history basic_types 0 (Finished ∷ Spent 3 ∷ Repor
 unfolding digits object_named type_name slot_of slot_in region_of address_of version_of first_multiple size_of sizes slots slot_address offset_in
 three_workers = refl
 
-pointers : type_name (basic_types ++ Pointer 3 ∷ Pointer 10 ∷ []) 11 ≡ codes "unsigned char**"
+pointers : type_name (record basic_types { kinds = basic_kinds ++ Pointer 3 ∷ Pointer 10 ∷ [] }) 11 ≡ codes "unsigned char**"
 unfolding type_name
 pointers = refl

@@ -1,7 +1,7 @@
 -- The lines that tell how the workers ended.
 use Rattle.std.specs.Prelude.{ℕ, ◌+◌, ◌≤◌, List, [], ◌∷◌, ◌++◌, length, codes, Option}
 use Rattle.std.specs.Fmt.{decimal}
-use Rattle.c_types.specs.declared.table.CType.{CType}
+use Rattle.c_types.specs.Table.{Types}
 use Rattle.heap_model.specs.Answers.{Name}
 use Rattle.heap_model.specs.declared.calls.Entry.{Entry}
 use Rattle.heap_model.specs.declared.calls.ReportKind.{ReportKind}
@@ -42,32 +42,32 @@ first_object history r = object_named history r.first_reach.lo r.first
 abbrev pub second_object : List Entry → Report → Option Name
 second_object history r = object_named history r.second_reach.lo r.second
 
-abbrev pub report_details : List Entry → List CType → Report → List ℕ
+abbrev pub report_details : List Entry → Types → Report → List ℕ
 report_details history types r = details (first_object history r) (second_object history r) (type_name types r.want) r r.kind
 
-abbrev pub report_line : List Entry → List CType → Report → List ℕ
+abbrev pub report_line : List Entry → Types → Report → List ℕ
 report_line history types r = kind_name r.kind ++ report_details history types r
 
 abbrev pub prefix : ℕ → ℕ → List ℕ
 prefix worker line = codes "worker " ++ decimal worker ++ codes ": line " ++ decimal line ++ codes ": "
 
 -- nothing is said of a worker that finished
-abbrev pub ending_line : List Entry → List CType → ℕ → Ending → List ℕ
+abbrev pub ending_line : List Entry → Types → ℕ → Ending → List ℕ
 ending_line history types worker Finished = []
 ending_line history types worker (Spent line) = prefix worker line ++ codes "Spent\n"
 ending_line history types worker (Reported report) = prefix worker report.line ++ report_line history types report ++ codes "\n"
 
 -- one for each worker in order, from this number on
-abbrev pub lines_from : List Entry → List CType → ℕ → List Ending → List ℕ
+abbrev pub lines_from : List Entry → Types → ℕ → List Ending → List ℕ
 lines_from history types worker [] = []
 lines_from history types worker (ending ∷ endings) =
     ending_line history types worker ending ++ lines_from history types (worker + 1) endings
 
-abbrev pub ending_lines : Record → List CType → List ℕ
+abbrev pub ending_lines : Record → Types → List ℕ
 ending_lines run types = lines_from run.history.entries types 0 run.endings
 
 -- The type that an ending's line writes is one of the table, or none, whose number is 0.
-abbrev pub KnowsType : List CType → Ending → Type 0
+abbrev pub KnowsType : Types → Ending → Type 0
 KnowsType types Finished = Unit {0}
 KnowsType types (Spent line) = Unit {0}
-KnowsType types (Reported report) = report.want ≤ length types
+KnowsType types (Reported report) = report.want ≤ length types.kinds

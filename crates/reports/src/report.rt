@@ -37,7 +37,7 @@ fn append_details(
     types: &TypeTable,
     report: &Report,
 ) -> Result<(), AllocError>
-    requires { report.now.want ≤ length types.now }
+    requires { report.now.want ≤ length types.now.kinds }
     ensures { OnOk result (to.new ≡ to.old ++ spec.report_details history.now.entries types.now report.now) }
 {
     if matches!(report.kind, ReportKind::Null) {
@@ -71,7 +71,7 @@ pub fn append_report(
     types: &TypeTable,
     report: &Report,
 ) -> Result<(), AllocError>
-    requires { report.now.want ≤ length types.now }
+    requires { report.now.want ≤ length types.now.kinds }
     ensures { OnOk result (to.new ≡ to.old ++ spec.report_line history.now.entries types.now report.now) }
 {
     to.append(kind_name(report.kind))?;

@@ -28,7 +28,7 @@ fn base_name(kind: CType) -> &'static [u8]
 
 /// The name of what is at the end of a row of pointers, and how many they are. The number 0, which is no type's, has no name.
 fn base_and_stars(types: &TypeTable, number: TypeNo) -> (&'static [u8], u32)
-    requires { number ≤ length types.now }
+    requires { number ≤ length types.now.kinds }
     ensures { result.0.now ++ replicate result.1 42 ≡ type_name types.now number }
 {
     let mut at = number;
@@ -43,7 +43,7 @@ fn base_and_stars(types: &TypeTable, number: TypeNo) -> (&'static [u8], u32)
 
 /// Adds the name of the type of a number.
 pub fn append_type(to: &mut Text, types: &TypeTable, number: TypeNo) -> Result<(), AllocError>
-    requires { number ≤ length types.now }
+    requires { number ≤ length types.now.kinds }
     ensures { OnOk result (to.new ≡ to.old ++ type_name types.now number) }
 {
     let (base, pointers) = base_and_stars(types, number);

@@ -30,7 +30,7 @@ both_first elem want bytes k a b p q =
     let four = lex_same a.lo b.lo false false three.1 three.2 in
     same_bounds elem want bytes k a b p.candidate q.candidate (sym three.0) four.0
 
-only_step : (elem want : Shape) (bytes k : ℕ) (bounds : Bounds) (found : Option Bounds) → ArePreferred elem bytes k want bounds →
+pub only_step : (elem want : Shape) (bytes k : ℕ) (bounds : Bounds) (found : Option Bounds) → ArePreferred elem bytes k want bounds →
     MatchOption found (HasNoCandidate elem bytes k want) (λ b. ArePreferred elem bytes k want b) → found ≡ Some bounds
 only_step elem want bytes k bounds None p h = absurd (h p.0 p.1.candidate)
 only_step elem want bytes k bounds (Some b) p h = ap Some (h.2 ∙ both_first elem want bytes k h.0 p.0 h.1 p.1 ∙ sym p.2)
@@ -39,7 +39,7 @@ pub pref_only : (elem want : Shape) (bytes k : ℕ) (bounds : Bounds) → ArePre
 pref_only elem want bytes k bounds p = only_step elem want bytes k bounds (pref elem bytes k want) p (pref_found elem bytes k want)
 
 -- the candidate whose bounds they are
-found_step : (elem want : Shape) (bytes k : ℕ) (bounds : Bounds) (found : Option Bounds) → found ≡ Some bounds →
+pub found_step : (elem want : Shape) (bytes k : ℕ) (bounds : Bounds) (found : Option Bounds) → found ≡ Some bounds →
     MatchOption found (HasNoCandidate elem bytes k want) (λ b. ArePreferred elem bytes k want b) → ArePreferred elem bytes k want bounds
 found_step elem want bytes k bounds None e h = cc
 found_step elem want bytes k bounds (Some b) e h =

@@ -6,6 +6,7 @@ use Rattle.std.specs.Option.{option_map, option_to_list}
 use Rattle.std.proofs.lemmas.Bool.Decides.{nat_tests}
 use Rattle.c_types.specs.Shapes.{Shape, size}
 use Rattle.type_layout.specs.declared.preference.Match.{Match}
+use Rattle.type_layout.specs.Listed.{In}
 use Rattle.type_layout.specs.Runs.{ShapeRun, runs_of_object, end_of}
 use Rattle.type_layout.specs.Matches.{IsMatch, of_run, of_characters, as_characters, IsCandidate, is_character, tier_of}
 use Rattle.type_layout.specs.Preferred.{ends_at, span, precedes, IsPreferred, ArePreferred, HasNoCandidate, bounds_of, run_match, object_match, matches, may_mean, better, least, pref}
@@ -30,29 +31,25 @@ lex_refl a p h = grind (arith, nat_tests)
 
 -- ---- lists
 
-abbrev In : {X : Type 0} → X → List X → Type 0
-In x [] = ⊥
-In x (y ∷ ys) = (x ≡ y) ⊎ In x ys
-
-contains_in : {X : Type 0} (xs : List X) (x : X) (k : ℕ) → k < length xs → get_or xs k x ≡ x → In x xs
+pub contains_in : {X : Type 0} (xs : List X) (x : X) (k : ℕ) → k < length xs → get_or xs k x ≡ x → In x xs
 contains_in [] x k h e = absurd (omega arith)
 contains_in (y ∷ ys) x zero h e = inl (sym e)
 contains_in (y ∷ ys) x (suc k) h e = inr (contains_in ys x k (omega arith) e)
 
-in_contains : {X : Type 0} (xs : List X) (x : X) → In x xs → Contains xs x
+pub in_contains : {X : Type 0} (xs : List X) (x : X) → In x xs → Contains xs x
 in_contains [] x h = absurd h
 in_contains (y ∷ ys) x h =
     ⊎_elim (λ e. (0, omega arith, sym e)) (λ i. let c = in_contains ys x i in (suc c.0, omega (arith, c.1), c.2)) h
 
-in_append_left : {X : Type 0} (x : X) (xs ys : List X) → In x xs → In x (xs ++ ys)
+pub in_append_left : {X : Type 0} (x : X) (xs ys : List X) → In x xs → In x (xs ++ ys)
 in_append_left x [] ys h = absurd h
 in_append_left x (z ∷ xs) ys h = ⊎_elim inl (λ i. inr (in_append_left x xs ys i)) h
 
-in_append_right : {X : Type 0} (x : X) (xs ys : List X) → In x ys → In x (xs ++ ys)
+pub in_append_right : {X : Type 0} (x : X) (xs ys : List X) → In x ys → In x (xs ++ ys)
 in_append_right x [] ys h = h
 in_append_right x (z ∷ xs) ys h = inr (in_append_right x xs ys h)
 
-in_append : {X : Type 0} (x : X) (xs ys : List X) → In x (xs ++ ys) → In x xs ⊎ In x ys
+pub in_append : {X : Type 0} (x : X) (xs ys : List X) → In x (xs ++ ys) → In x xs ⊎ In x ys
 in_append x [] ys h = inr h
 in_append x (z ∷ xs) ys h = ⊎_elim (λ e. inl (inl e)) (λ i. ⊎_elim (λ j. inl (inr j)) inr (in_append x xs ys i)) h
 
@@ -61,7 +58,7 @@ filter_step : (p : Match → Bool) (m x : Match) (rest : List Match) (b : Bool) 
 filter_step p m x rest true e h = ⊎_elim (λ f. inl (f, ap p f ∙ e)) inr h
 filter_step p m x rest false e h = inr h
 
-in_filter : (p : Match → Bool) (m : Match) (xs : List Match) → In m (filter p xs) → In m xs × (p m ≡ true)
+pub in_filter : (p : Match → Bool) (m : Match) (xs : List Match) → In m (filter p xs) → In m xs × (p m ≡ true)
 in_filter p m [] h = absurd h
 in_filter p m (x ∷ xs) h =
     ⊎_elim (λ f. (inl f.0, f.1)) (λ i. let r = in_filter p m xs i in (inr r.0, r.1)) (filter_step p m x (filter p xs) (p x) refl h)
@@ -70,7 +67,7 @@ kept_step : (m x : Match) (rest : List Match) (b : Bool) → In m rest → In m 
 kept_step m x rest true h = inr h
 kept_step m x rest false h = h
 
-filter_in : (p : Match → Bool) (m : Match) (xs : List Match) → In m xs → p m ≡ true → In m (filter p xs)
+pub filter_in : (p : Match → Bool) (m : Match) (xs : List Match) → In m xs → p m ≡ true → In m (filter p xs)
 filter_in p m [] h e = absurd h
 filter_in p m (x ∷ xs) h e =
     ⊎_elim (λ f. rw (← f, e) (inl refl)) (λ i. kept_step m x (filter p xs) (p x) (filter_in p m xs i e)) h
@@ -81,7 +78,7 @@ made_step : (m : Match) (rest : List Match) (o : Option Match) → In m (cons_op
 made_step m rest None h = inr h
 made_step m rest (Some x) h = ⊎_elim (λ e. inl (ap Some (sym e))) inr h
 
-in_filter_map : (f : ShapeRun → Option Match) (m : Match) (runs : List ShapeRun) → In m (filter_map f runs) →
+pub in_filter_map : (f : ShapeRun → Option Match) (m : Match) (runs : List ShapeRun) → In m (filter_map f runs) →
     (run : ShapeRun) × In run runs × (f run ≡ Some m)
 in_filter_map f m [] h = absurd h
 in_filter_map f m (run ∷ runs) h =
@@ -91,14 +88,14 @@ more_step : (m : Match) (rest : List Match) (o : Option Match) → In m rest →
 more_step m rest None h = h
 more_step m rest (Some x) h = inr h
 
-filter_map_in : (f : ShapeRun → Option Match) (m : Match) (run : ShapeRun) (runs : List ShapeRun) → In run runs → f run ≡ Some m →
+pub filter_map_in : (f : ShapeRun → Option Match) (m : Match) (run : ShapeRun) (runs : List ShapeRun) → In run runs → f run ≡ Some m →
     In m (filter_map f runs)
 filter_map_in f m run [] h e = absurd h
 filter_map_in f m run (r ∷ runs) h e =
     ⊎_elim (λ g. rw (← g, e) (inl refl)) (λ i. more_step m (filter_map f runs) (f r) (filter_map_in f m run runs i e)) h
 
 module _ (elem : Shape) (bytes : ℕ) (want : Shape) where
-  match_of_run : (run : ShapeRun) (m : Match) (o : Option ℕ) → tier_of run.kind want ≡ o →
+  pub match_of_run : (run : ShapeRun) (m : Match) (o : Option ℕ) → tier_of run.kind want ≡ o →
       option_map (λ tier. record { tier = tier; lo = run.lo; hi = end_of run; step = size run.kind }) o ≡ Some m →
       Contains (runs_of_object elem bytes) run → IsMatch elem bytes want m
   match_of_run run m None t e found = cc
@@ -107,7 +104,7 @@ module _ (elem : Shape) (bytes : ℕ) (want : Shape) where
       let g : made ≡ m = cc in
       subst (λ x. IsMatch elem bytes want x) g (of_run run tier found t)
 
-  match_of_object : (m : Match) (a b : Bool) → is_character want ≡ a → is_character elem ≡ b →
+  pub match_of_object : (m : Match) (a b : Bool) → is_character want ≡ a → is_character elem ≡ b →
       In m (option_to_list (if a then Some (record { tier = 2; lo = 0; hi = bytes; step = 1 }) else
       (if b then Some (record { tier = 3; lo = 0; hi = bytes; step = 1 }) else None))) → IsMatch elem bytes want m
   match_of_object m true b e f h = ⊎_elim (λ g. subst (λ x. IsMatch elem bytes want x) (sym g) (as_characters e)) (λ i. absurd i) h
@@ -150,22 +147,22 @@ module _ (elem : Shape) (bytes : ℕ) (want : Shape) where
 -- ---- the least
 
 -- a match goes no later than another
-NotAfter : ℕ → Match → Match → Type 0
+pub NotAfter : ℕ → Match → Match → Type 0
 NotAfter k a b = precedes k b a ≡ false
 
-not_after_refl : (k : ℕ) (a : Match) → NotAfter k a a
+pub not_after_refl : (k : ℕ) (a : Match) → NotAfter k a a
 unfolding NotAfter
 not_after_refl k a =
     lex_refl (ends_at k a) _ (lex_refl a.tier _ (lex_refl (span a) _ (lex_refl a.lo false refl)))
 
-not_after_trans : (k : ℕ) (a b c : Match) → NotAfter k a b → NotAfter k b c → NotAfter k a c
+pub not_after_trans : (k : ℕ) (a b c : Match) → NotAfter k a b → NotAfter k b c → NotAfter k a c
 unfolding NotAfter
 not_after_trans k a b c =
     lex_trans (ends_at k a) (ends_at k b) (ends_at k c) _ _ _
     (lex_trans a.tier b.tier c.tier _ _ _
     (lex_turned (span a) (span b) (span c) _ _ _ (lex_trans a.lo b.lo c.lo false false false (λ _ _. refl))))
 
-precedes_not_after : (k : ℕ) (a b : Match) → precedes k a b ≡ true → NotAfter k a b
+pub precedes_not_after : (k : ℕ) (a b : Match) → precedes k a b ≡ true → NotAfter k a b
 unfolding NotAfter
 precedes_not_after k a b =
     lex_asym (ends_at k a) (ends_at k b) _ _
@@ -173,9 +170,9 @@ precedes_not_after k a b =
 
 -- the least of a list and one more before it
 pub record IsLeast (k : ℕ) (best : Match) (all : List Match) (m : Match) : Type 0 where
-  one : (m ≡ best) ⊎ In m all
-  before_best : NotAfter k m best
-  before_all : (other : Match) → In other all → NotAfter k m other
+  pub one : (m ≡ best) ⊎ In m all
+  pub before_best : NotAfter k m best
+  pub before_all : (other : Match) → In other all → NotAfter k m other
 
 least_step : (k : ℕ) (best next : Match) (rest : List Match) (m : Match) (b : Bool) → precedes k next best ≡ b →
     IsLeast k (cond b next best) rest m → IsLeast k best (next ∷ rest) m
@@ -192,7 +189,7 @@ least_step k best next rest m false e l = record {
       ⊎_elim (λ f. subst (λ x. NotAfter k m x) (sym f) (not_after_trans k m best next l.before_best e)) (λ i. l.before_all other i) h;
 }
 
-least_from : (k : ℕ) (best : Match) (all : List Match) → (m : Match) × (fold (better k) (Some best) all ≡ Some m) × IsLeast k best all m
+pub least_from : (k : ℕ) (best : Match) (all : List Match) → (m : Match) × (fold (better k) (Some best) all ≡ Some m) × IsLeast k best all m
 least_from k best [] = (best, refl, record { one = inl refl; before_best = not_after_refl k best; before_all = λ other h. absurd h })
 least_from k best (next ∷ rest) =
     let r = least_from k (cond (precedes k next best) next best) rest in
@@ -200,7 +197,7 @@ least_from k best (next ∷ rest) =
 
 module _ (elem : Shape) (bytes k : ℕ) (want : Shape) where
   -- for a list of the candidates
-  pref_step : (all : List Match) → ((m : Match) → IsCandidate elem bytes k want m → In m all) → ((m : Match) → In m all → IsCandidate elem bytes k want m) →
+  pub pref_step : (all : List Match) → ((m : Match) → IsCandidate elem bytes k want m → In m all) → ((m : Match) → In m all → IsCandidate elem bytes k want m) →
       MatchOption (option_map bounds_of (least k all)) (HasNoCandidate elem bytes k want) (λ bounds. ArePreferred elem bytes k want bounds)
   unfolding NotAfter
   pref_step [] has is = λ m c. has m c

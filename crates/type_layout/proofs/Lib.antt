@@ -1,5 +1,11 @@
-mod Within
-mod Least
-mod Consequences
-mod Scalars
-mod Searched
+pub mod Within
+pub mod Least
+pub mod Consequences
+pub mod Wholes
+pub mod Searched
+pub mod Values
+pub mod Parts
+pub mod Frames
+pub mod Tiers
+pub mod Tails
+pub mod Objects

@@ -30,10 +30,10 @@ either_above : (b : Bool) (m k : ℕ) → m ≤ k → m ≤ cond b m k
 either_above true m k h = omega arith
 either_above false m k h = h
 
-round_up_above : (step n : ℕ) → n ≤ round_up step n
+pub round_up_above : (step n : ℕ) → n ≤ round_up step n
 round_up_above step n = either_above (n % step == 0) n (n + (step - n % step)) (omega arith)
 
-struct_grows : (members : Members) (end : ℕ) → end ≤ end_of_struct members end
+pub struct_grows : (members : Members) (end : ℕ) → end ≤ end_of_struct members end
 struct_grows None_left end = omega arith
 struct_grows (Member first rest) end =
     omega (arith, round_up_above (alignment first) end, struct_grows rest (next_offset first end + size first))

@@ -1,4 +1,6 @@
 pub mod Runs
 pub mod Matches
 pub mod Preferred
+pub mod Listed
 pub mod Search
+pub mod Pending

@@ -3,10 +3,11 @@
 
 mod laws;
 mod object_runs;
+mod opening;
 mod preference;
 
 pub use laws::{
     law_inside, law_offset_within, law_preferred, law_strictly_inside, law_well_defined,
 };
 pub use object_runs::{Run, runs};
-pub use preference::{Bounds, Match, preferred};
+pub use preference::{Bounds, Match, consider, preferred};

@@ -128,8 +128,8 @@ fn precedes(a: &Match, b: &Match, k: u64) -> bool
     a.lo < b.lo
 }
 
-/// The best match so far, where there may be one more.
-fn consider(k: u64, best: Option<Match>, next: Option<Match>) -> Option<Match>
+/// The best match so far at the offset `k`, where there may be one more.
+pub fn consider(k: u64, best: Option<Match>, next: Option<Match>) -> Option<Match>
     requires ordered { search.IsOrdered best }
     requires step { IfSome next (λ m. 0 < m.step) }
     ensures value { result ≡ search.consider k best next }
@@ -171,7 +171,8 @@ pub fn preferred(
     requires want { HasSize types.now want }
     requires runs { runs.now ≡ map with_number (runs_of_object (shape_of types.now elem) size) }
     ensures value { result ≡ pref (shape_of types.now elem) size k (shape_of types.now want) }
-    ensures first { MatchOption result (HasNoCandidate (shape_of types.now elem) size k (shape_of types.now want)) (λ bounds. ArePreferred (shape_of types.now elem) size k (shape_of types.now want) bounds) }
+    ensures first { MatchOption result (HasNoCandidate (shape_of types.now elem) size k (shape_of types.now want))
+        (λ bounds. ArePreferred (shape_of types.now elem) size k (shape_of types.now want) bounds) }
 {
     law_table(types);
     let mut best = None;

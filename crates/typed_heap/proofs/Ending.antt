@@ -2,8 +2,7 @@
 use Rattle.std.proofs.Common.{◌≡◌, ℕ, ◌<◌, ◌≤◌, Bool, true, false, cond, ◌==◌, List, [], ◌∷◌, ◌++◌, length, get_or, set, Option, Some, None, refl, sym, ap, ◌∙◌, subst, arith}
 use Rattle.std.specs.Prelude.{nat_lt}
 use Rattle.std.proofs.lemmas.Bool.{eq-eqb, eqb-false, ltb-true}
-use Rattle.c_types.specs.declared.table.CType.{CType}
-use Rattle.c_types.specs.Table.{HasSize}
+use Rattle.c_types.specs.Table.{Types, HasSize}
 use Rattle.heap_model.specs.Regions.{Slot, version_of}
 use Rattle.heap_model.specs.Cells.{Cell}
 use Rattle.heap_model.specs.Heap.{Body, with_dead}
@@ -41,7 +40,7 @@ same-some a b e = cc
 
 -- ---- element types
 
-elements-by : (types : List CType) (r : ℕ) (old states : List SlotState) (n : ℕ) (p : SlotState) → ((m : ℕ) → get_or states m fresh_slot ≡ cond (m == n) p (get_or old m fresh_slot))
+elements-by : (types : Types) (r : ℕ) (old states : List SlotState) (n : ℕ) (p : SlotState) → ((m : ℕ) → get_or states m fresh_slot ≡ cond (m == n) p (get_or old m fresh_slot))
     → ((o : Body ℕ) → p.body ≡ Some o → HasSize types o.elem) → KnowsElements types (record { region = r; states = old }) → KnowsElements types (record { region = r; states = states })
 elements-by types r old states n p at new known m object is = go (m == n) (ap (λ p. p.body) (sym (at m)) ∙ is)
   where
@@ -49,7 +48,7 @@ elements-by types r old states n p at new known m object is = go (m == n) (ap (�
     go true e = new object e
     go false e = known m object e
 
-pub elements-without : (types : List CType) (st : State) (n : ℕ) → n < length st.states → KnowsElements types st
+pub elements-without : (types : Types) (st : State) (n : ℕ) → n < length st.states → KnowsElements types st
     → KnowsElements types (record { region = st.region; states = set st.states n (without_object (state_at st.states n)) })
 elements-without types st n below known =
     elements-by types st.region st.states (set st.states n (without_object (state_at st.states n))) n (without_object (state_at st.states n)) (set-at st.states n (without_object (state_at st.states n)) below) (λ o e. absurd (none-is o e)) known
@@ -57,13 +56,13 @@ elements-without types st n below known =
     none-is : (o : Body ℕ) → ◌≡◌ {A = Option (Body ℕ)} None (Some o) → ⊥
     none-is o e = cc
 
-pub elements-cells : (types : List CType) (st : State) (n : ℕ) (o : Body ℕ) (cells : List (Cell ℕ)) → n < length st.states → (state_at st.states n).body ≡ Some o → KnowsElements types st
+pub elements-cells : (types : Types) (st : State) (n : ℕ) (o : Body ℕ) (cells : List (Cell ℕ)) → n < length st.states → (state_at st.states n).body ≡ Some o → KnowsElements types st
     → KnowsElements types (record { region = st.region; states = set st.states n (with_cells_of (state_at st.states n) o cells) })
 elements-cells types st n o cells below is known =
     elements-by types st.region st.states (set st.states n (with_cells_of (state_at st.states n) o cells)) n (with_cells_of (state_at st.states n) o cells) (set-at st.states n (with_cells_of (state_at st.states n) o cells) below)
     (λ b e. subst (λ (x : ℕ). HasSize types x) (ap (λ b. b.elem) (same-some _ _ e)) (known n o is)) known
 
-pub elements-object : (types : List CType) (st : State) (n : ℕ) (o : Body ℕ) → n ≤ length st.states → HasSize types o.elem → KnowsElements types st
+pub elements-object : (types : Types) (st : State) (n : ℕ) (o : Body ℕ) → n ≤ length st.states → HasSize types o.elem → KnowsElements types st
     → KnowsElements types (record { region = st.region; states = with_object st.states n o })
 elements-object types st n o next size known = go (nat_lt n (length st.states)) refl
   where

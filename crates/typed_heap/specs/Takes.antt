@@ -1,7 +1,6 @@
 -- The calls that the heap of a region takes so far, and the types that it has to know.
 use Rattle.std.specs.Prelude.{◌≡◌, ℕ, Bool, true, false, List, Some}
-use Rattle.c_types.specs.declared.table.CType.{CType}
-use Rattle.c_types.specs.Table.{HasSize}
+use Rattle.c_types.specs.Table.{Types, HasSize}
 use Rattle.heap_model.specs.Heap.{Body}
 use Rattle.heap_model.specs.State.{State}
 use Rattle.heap_model.specs.Forms.{is_number}
@@ -19,7 +18,7 @@ moves_numbers (Store p reach kind value) = is_number kind
 moves_numbers (Add p reach kind value) = false
 
 -- The type that a call names has a size in the table, as each whole number has.
-abbrev pub KnowsTypes : List CType → Call → Type 0
+abbrev pub KnowsTypes : Types → Call → Type 0
 KnowsTypes types (Alloc elem size fixed) = HasSize types elem
 KnowsTypes types (Free p fixed) = Unit {0}
 KnowsTypes types (Check p want) = HasSize types want
@@ -28,7 +27,7 @@ KnowsTypes types (Store p reach kind value) = Unit {0}
 KnowsTypes types (Add p reach kind value) = Unit {0}
 
 -- The element type of each live object has a size in the table.
-abbrev pub KnowsElements : List CType → State → Type 0
+abbrev pub KnowsElements : Types → State → Type 0
 KnowsElements types heap = (n : ℕ) (object : Body ℕ) → (state_at heap.states n).body ≡ Some object → HasSize types object.elem
 
 -- a call that can be out of memory

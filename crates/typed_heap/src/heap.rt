@@ -1,8 +1,7 @@
 //! The heap of one region.
 
 ghost use Rattle.std.specs.Prelude.{◌≡◌, ◌+◌, ◌-◌, ◌^◌, ◌≤◌, ◌<◌, ◌==◌, ◌||◌, ℕ, Bool, List, [], Some, None, true, false, length, IfOk, IfSome, OnErr, MatchOption, MatchResult};
-ghost use Rattle.c_types.specs.declared.table.CType.{CType};
-ghost use Rattle.c_types.specs.Table.{HasSize};
+ghost use Rattle.c_types.specs.Table.{Types, HasSize};
 ghost use Rattle.heap_model.specs.Answers as answers;
 ghost use Rattle.heap_model.specs.Answers.{Words, access, answer_by, next, reply};
 ghost use Rattle.heap_model.specs.Cells.{Loads, Stores, Number};
@@ -172,7 +171,7 @@ impl RegionHeap {
         ensures next { IfOk result (λ reply. (worker number : ℕ) (h : Words) → StandsFor self.old h
             → StandsFor self.new (next worker number h (Call.Alloc elem size fixed) reply)) }
         ensures suits { IfOk result (λ reply. suits_alloc reply ≡ true) }
-        ensures elements { (types : List CType) → HasSize types elem → KnowsElements types self.old → KnowsElements types self.new }
+        ensures elements { (types : Types) → HasSize types elem → KnowsElements types self.old → KnowsElements types self.new }
         ensures region { self.new.region ≡ self.old.region }
         ensures unchanged { OnErr result (self.new ≡ self.old) }
     {
@@ -189,7 +188,7 @@ impl RegionHeap {
         ensures answer { (preferred : Preference) → result ≡ answer_by preferred (live_by self.old) (dead_by self.old) (Call.Free p fixed) }
         ensures next { (worker number : ℕ) (h : Words) → StandsFor self.old h → StandsFor self.new (next worker number h (Call.Free p fixed) result) }
         ensures suits { suits_free result ≡ true }
-        ensures elements { (types : List CType) → KnowsElements types self.old → KnowsElements types self.new }
+        ensures elements { (types : Types) → KnowsElements types self.old → KnowsElements types self.new }
         ensures region { self.new.region ≡ self.old.region }
     {
         if p == 0 {
@@ -225,7 +224,7 @@ impl RegionHeap {
         ensures answer { (dead : Bool) → result ≡ reply (free_outcome (answers.offset (regions.address_of p) p) fixed (state_at self.old.states slot).body dead) }
         ensures suits { suits_free result ≡ true }
         ensures next { (worker number : ℕ) (h : Words) → StandsFor self.old h → StandsFor self.new (next worker number h (Call.Free p fixed) result) }
-        ensures elements { (types : List CType) → KnowsElements types self.old → KnowsElements types self.new }
+        ensures elements { (types : Types) → KnowsElements types self.old → KnowsElements types self.new }
         ensures region { self.new.region ≡ self.old.region }
     {
         if self.offset(slot, address_of(p), p) != 0 {
@@ -333,7 +332,7 @@ impl RegionHeap {
         ensures next { (worker number : ℕ) (h : Words) → StandsFor self.old h
             → StandsFor self.new (next worker number h (Call.Store p reach.now kind (record { bits = bits; pointer = false })) result) }
         ensures suits { suits_store result ≡ true }
-        ensures elements { (types : List CType) → KnowsElements types self.old → KnowsElements types self.new }
+        ensures elements { (types : Types) → KnowsElements types self.old → KnowsElements types self.new }
         ensures region { self.new.region ≡ self.old.region }
     {
         match self.locate(p, reach, kind) {

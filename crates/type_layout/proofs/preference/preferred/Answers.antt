@@ -1,6 +1,6 @@
 use Rattle.std.proofs.Common.{arith}
 use Rattle.c_types.specs.Table.{shape_of}
-use Rattle.type_layout.proofs.Scalars.{all_within, with_types}
+use Rattle.type_layout.proofs.Wholes.{all_within, with_types}
 use Rattle.type_layout.proofs.Least.{pref_found}
 use Rattle.type_layout.proofs.Searched.{one_more, all_seen}
 use Rattle.type_layout.proofs.preference.preferred.Goals as goal

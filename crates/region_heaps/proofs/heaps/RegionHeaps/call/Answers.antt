@@ -1,7 +1,6 @@
 use Rattle.std.proofs.Common.{◌≡◌, ◌+◌, List, [], ◌∷◌, ◌++◌, length, Some, sym, ap, ◌∙◌, subst, arith}
 use Rattle.std.proofs.lemmas.List.{with_items_is}
-use Rattle.c_types.specs.declared.table.CType.{CType}
-use Rattle.c_types.specs.Table.{basic_types}
+use Rattle.c_types.specs.Table.{Types, basic_types}
 use Rattle.heap_model.specs.Forms.{region_for}
 use Rattle.heap_model.specs.State.{State}
 use Rattle.heap_model.specs.declared.calls.Entry.{Entry}
@@ -34,7 +33,7 @@ step-requires-clause-elements c =
     let region = c.unwrap-region.result in
     let range = region_for-range c.args.call.now region (sym c.region_for.ensures ∙ c.unwrap-region.ensures) in
     let P : List State → Type 0 = λ heaps. KnowsElements c.self.inside.types (heap_of heaps region) in
-    let Q : List CType → Type 0 = λ types. KnowsElements types (heap_of c.self.inside.heaps.items region) in
+    let Q : Types → Type 0 = λ types. KnowsElements types (heap_of c.self.inside.heaps.items region) in
     subst P (sym c.deref_mut.ensures.value) (subst Q (sym c.self.invariant.types) (c.self.invariant.keeps.each region range.0 range.1).elements)
 
 pub count-requires-clause-room : goal.count-requires-clause-room
@@ -58,7 +57,7 @@ invariant_of-self-2 c =
     let counts' = count_of c.count.new.self in
     let counted = c.next.ensures.counts in
     let P : List State → Type 0 = λ old. Steps c.self.inside.types old c.step.new.heaps region c.args.call.now c.in_ok-reply.reply in
-    let Q : List CType → Type 0 = λ types. Steps types heaps c.step.new.heaps region c.args.call.now c.in_ok-reply.reply in
+    let Q : Types → Type 0 = λ types. Steps types heaps c.step.new.heaps region c.args.call.now c.in_ok-reply.reply in
     let steps = subst Q c.self.invariant.types (subst P c.deref_mut.ensures.value c.in_ok-reply.ensures.steps) in
     let R : List Entry → Type 0 = λ es. Keeps basic_types c.step.new.heaps counts' es in
     let pushed : c.push.new.self.entries ≡ history ++ entry ∷ [] = c.push.ensures.entries ∙ ap (λ es. es ++ entry ∷ []) c.room.ensures.entries in
