@@ -2,17 +2,13 @@
 use Rattle.std.proofs.Common.{◌≡◌, ℕ, zero, suc, ◌+◌, ◌-◌, ◌*◌, ◌/◌, ◌%◌, ◌^◌, ◌<◌, ◌≤◌, List, [], ◌∷◌, ◌++◌, length, take, drop, map, Some, refl, sym, ap, ◌∙◌, arith, append_assoc, get_or}
 use Rattle.std.specs.Prelude.{option_map}
 use Rattle.std.specs.Int.{w64, to_le_bytes, bytes_low_first, byte_at, from_le_bytes}
-use Rattle.std.proofs.Math.Nat.{mul-le-mul_left, div-div-eq-div-mul, div-add-mod, pow-succ'}
-use Rattle.std.proofs.lemmas.Nat.{div-mul-add, mod-mul-add, mod-pow-add, pow-add, pow_pos, mod_below, div_below, le_bytes_8}
+use Rattle.std.proofs.Math.Nat.{div-div-eq-div-mul, div-add-mod, pow-succ'}
+use Rattle.std.proofs.lemmas.Nat.{div-mul-add, mod-mul-add, mod-pow-add, pow-add, pow_pos, mod_below, le_bytes_8}
 use Rattle.std.proofs.lemmas.List.{take_at, drop_at, length-append, drop_all, drop_more}
 use Rattle.slot_store.specs.Cells.{Cell, Byte, bytes, parts, put, number_in, cells_at, byte_in}
 use Rattle.slot_store.specs.Words.{with_bits}
 
 -- ---- sums of a low and a high part
-
--- a low part below Q and a high part below R make a number below Q * R
-pub below_product : (Q R v h : ℕ) → v < Q → h < R → v + Q * h < Q * R
-below_product Q R v h low high = omega (arith, mul-le-mul_left Q (let s : h + 1 ≤ R = omega arith in s))
 
 pub low_of : (Q v h : ℕ) → v < Q → (v + Q * h) % Q ≡ v
 low_of Q v h low = let e : v + Q * h ≡ h * Q + v = omega arith in rw e (mod-mul-add h Q v low)
@@ -134,47 +130,13 @@ put-bytes b w new n inside =
     ∙ ap (λ t. bytes b n ++ (bytes w new ++ bytes c t)) top in
     left ∙ sym right
 
--- ---- a piece of a number taken out, and another one put in
-
--- a number by the piece from P on and below Q
-three_parts : (P Q n : ℕ) → n ≡ n % P + (P * (n / P % Q) + P * (Q * (n / P / Q)))
-three_parts P Q n =
-    let above : P * (n / P) ≡ P * (n / P % Q + Q * (n / P / Q)) = ap (λ m. P * m) (sym (parts_again Q (n / P))) in
-    omega (arith, parts_again P n)
-
-pub piece_out : (P Q n : ℕ) → n / P % Q * P ≤ n
-piece_out P Q n = omega (arith, three_parts P Q n)
-
-pub piece_in : (P Q n v : ℕ) → n - n / P % Q * P + v * P ≡ n % P + P * (v + Q * (n / P / Q))
-piece_in P Q n v = omega (arith, three_parts P Q n)
-
-pub piece_fits : (b w n v : ℕ) → b + w ≤ 8 → n < 2 ^ 64 → v < 2 ^ (8 * w)
-    → n % 2 ^ (8 * b) + 2 ^ (8 * b) * (v + 2 ^ (8 * w) * (n / 2 ^ (8 * b) / 2 ^ (8 * w))) < 2 ^ 64
-piece_fits b w n v inside small low =
-    let P : ℕ = 2 ^ (8 * b) in
-    let Q : ℕ = 2 ^ (8 * w) in
-    let R : ℕ = 2 ^ (64 - (8 * b + 8 * w)) in
-    let sum : 64 ≡ 8 * b + (8 * w + (64 - (8 * b + 8 * w))) = omega arith in
-    let whole : 2 ^ 64 ≡ P * (Q * R) =
-    ap (λ k. 2 ^ k) sum ∙ pow-add 2 (8 * b) (8 * w + (64 - (8 * b + 8 * w)))
-    ∙ ap (λ m. P * m) (pow-add 2 (8 * w) (64 - (8 * b + 8 * w))) in
-    let order : P * (Q * R) ≡ R * Q * P = omega arith in
-    let positive : 0 < P = pow_pos (8 * b) in
-    let positive' : 0 < Q = pow_pos (8 * w) in
-    let first : n / P < R * Q = div_below n P (R * Q) positive (omega arith) in
-    let top : n / P / Q < R = div_below (n / P) Q R positive' first in
-    let lowest : n % P < P = mod_below n P positive in
-    let bound : n % P + P * (v + Q * (n / P / Q)) < P * (Q * R) =
-    below_product P (Q * R) (n % P) (v + Q * (n / P / Q)) lowest (below_product Q R v (n / P / Q) low top) in
-    omega arith
-
 -- ---- the bytes of a header's two words
 
 byte_power : (i : ℕ) → 256 ^ i ≡ 2 ^ (8 * i)
 byte_power zero = refl
 byte_power (suc i) = pow-succ' 256 i ∙ ap (λ m. 256 * m) (byte_power i) ∙ sym (byte_more i)
 
-byte_at_is : (i n : ℕ) → byte_at i n ≡ n / 2 ^ (8 * i) % 256
+pub byte_at_is : (i n : ℕ) → byte_at i n ≡ n / 2 ^ (8 * i) % 256
 byte_at_is zero n = let e : n / 2 ^ (8 * 0) ≡ n = omega arith in rw e refl
 byte_at_is (suc i) n = ap (λ m. n / m % 256) (byte_power (suc i))
 

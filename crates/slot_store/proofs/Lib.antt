@@ -1,4 +1,5 @@
 pub mod Digits
+pub mod Reading
 pub mod Values
 pub mod Paging
 pub mod Slots

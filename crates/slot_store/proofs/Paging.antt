@@ -1,17 +1,17 @@
 -- Words in pages, and their marks.
 use Rattle.std.proofs.Common.{◌≡◌, ◌≢◌, ℕ, zero, suc, ◌+◌, ◌-◌, ◌*◌, ◌/◌, ◌%◌, ◌^◌, ◌<◌, ◌≤◌, Bool, true, false, cond, List, [], ◌∷◌, ◌++◌, length, take, drop, get_or, refl, sym, ap, ◌∙◌, arith, inl, inr}
-use Rattle.std.specs.Prelude.{◌⊎◌, ◌==◌, replicate, bit_and, nat_le}
+use Rattle.std.specs.Prelude.{◌⊎◌, ◌==◌, replicate, nat_le}
 use Rattle.std.proofs.lemmas.Bool.{leb-true, leb-false, le-leb, lt-leb}
-use Rattle.std.specs.Int.{bit_at}
 use Rattle.std.proofs.Math.ListN.{set}
-use Rattle.std.proofs.lemmas.Bool.Decides.{eqb_tells}
-use Rattle.std.proofs.lemmas.Nat.Bits.{bit_at-zero, shr_and_one}
-use Rattle.std.proofs.lemmas.List.{length-append, length-set, length-replicate, get_or-replicate, get_or-set_same, get_or-set_other, get_or_append_left, get_or-append_right, set-append_left, set-append_right, same_lists, get_or_push, get_or_default, append-nil, append_assoc, get_or_read, length-take-le, length-drop, drop_more, set_at, replicate_more, replicate-append-replicate, take-append-drop}
+use Rattle.std.proofs.lemmas.Bool.Decides.{eqb_tells, leb_tells}
+use Rattle.std.proofs.lemmas.List.{length-append, length-set, set-set, length-replicate, get_or-replicate, get_or-set_same, get_or-set_other, get_or_append_left, get_or-append_right, set-append_left, set-append_right, same_lists, get_or_push, append-nil, append_assoc, length-take-le, length-drop, drop_more, set_at, replicate_more, replicate-append-replicate, take-append-drop}
 use Rattle.std.proofs.lemmas.List.FromFn.{length-map-range_with_len, get_or-map-range_with_len}
 use Rattle.std.proofs.lemmas.Grind.{flat_map-append}
 use Rattle.slot_headers.specs.declared.value.Value.{Value}
-use Rattle.slot_store.specs.Words.{zero_word, zero_words}
+use Rattle.slot_store.specs.Words.{zero_word, zero_words, bits_at, with_bits, unmarked, with_number}
+use Rattle.slot_store.specs.Numbers.{AreBytes, number_at}
 use Rattle.slot_store.specs.Pages.{word_at, words_of, joined, page_at, AreWhole}
+use Rattle.slot_store.proofs.Reading.{number_at-same, number_at-zeros, bits_at-number_at, with_bits-number_at}
 
 -- ---- zeros
 
@@ -25,65 +25,31 @@ get_or-zero_words n k d h = get_or-replicate n k zero_word d h
 
 -- ---- a page
 
-pub length-words_of : (ws ms : List ℕ) → length (words_of ws ms) ≡ 8192
+pub length-words_of : (bs : List ℕ) (ms : List Bool) → length (words_of bs ms) ≡ 8192
 unfolding words_of
-length-words_of ws ms = length-map-range_with_len (word_at ws ms) 0 8192
+length-words_of bs ms = length-map-range_with_len (word_at bs ms) 0 8192
 
-pub get_or-words_of : (ws ms : List ℕ) (i : ℕ) (d : Value) → i < 8192 → get_or (words_of ws ms) i d ≡ word_at ws ms i
+pub get_or-words_of : (bs : List ℕ) (ms : List Bool) (i : ℕ) (d : Value) → i < 8192 → get_or (words_of bs ms) i d ≡ word_at bs ms i
 unfolding words_of
-get_or-words_of ws ms i d h = get_or-map-range_with_len (word_at ws ms) 0 8192 i i d h (omega arith)
+get_or-words_of bs ms i d h = get_or-map-range_with_len (word_at bs ms) 0 8192 i i d h (omega arith)
+
+-- a word of a page, by what is seen of the page
+pub word_seen : (bs : List ℕ) (ms : List Bool) (words : List Value) (i : ℕ) (d : Value) → words_of bs ms ≡ words → i < 8192
+    → get_or words i d ≡ word_at bs ms i
+word_seen bs ms words i d view h = ap (λ l. get_or l i d) (sym view) ∙ get_or-words_of bs ms i d h
 
 -- a page of zeros
-pub words_of_zeros : (ws ms : List ℕ) → ws ≡ replicate 8192 0 → ms ≡ replicate 128 0 → words_of ws ms ≡ zero_words 8192
-words_of_zeros ws ms w m =
-    same_lists (words_of ws ms) (zero_words 8192) (length-words_of ws ms ∙ sym (length-zero_words 8192))
+pub words_of_zeros : (bs : List ℕ) (ms : List Bool) → bs ≡ replicate 65536 0 → ms ≡ replicate 8192 false
+    → words_of bs ms ≡ zero_words 8192
+words_of_zeros bs ms b m =
+    same_lists (words_of bs ms) (zero_words 8192) (length-words_of bs ms ∙ sym (length-zero_words 8192))
     (λ k d h.
-    let small : k < 8192 = omega (arith, length-words_of ws ms) in
-    let place : k / 64 < 128 = omega arith in
-    let bits : get_or ws k 0 ≡ 0 = ap (λ l. get_or l k 0) w ∙ get_or-replicate 8192 k 0 0 small in
-    let mark : get_or ms (k / 64) 0 ≡ 0 = ap (λ l. get_or l (k / 64) 0) m ∙ get_or-replicate 128 (k / 64) 0 0 place in
-    let first : get_or (words_of ws ms) k d ≡ word_at ws ms k = get_or-words_of ws ms k d small in
-    let same : word_at ws ms k ≡ zero_word =
-    ap (λ b. record { bits = b; pointer = bit_at (get_or ms (k / 64) 0) (k % 64) == 1 }) bits
-    ∙ ap (λ b. record { bits = 0; pointer = bit_at b (k % 64) == 1 }) mark
-    ∙ ap (λ b. record { bits = 0; pointer = b == 1 }) (bit_at-zero (k % 64)) in
-    first ∙ same ∙ sym (get_or-zero_words 8192 k d small))
-
--- a bit that is 1 exactly where a mark is wanted
-mark_again : (b : Bool) (n : ℕ) → n ≡ cond b 1 0 → (n == 1) ≡ b
-mark_again true n e = rw e refl
-mark_again false n e = rw e refl
-
--- a word is read after it was written, and each other word as before
-word_after : (ws ms : List ℕ) (i m : ℕ) (v : Value) → length ws ≡ 8192 → length ms ≡ 128 → i < 8192
-    → bit_at m (i % 64) ≡ cond v.pointer 1 0
-    → ((b : ℕ) → b < 64 → b ≢ i % 64 → bit_at m b ≡ bit_at (get_or ms (i / 64) 0) b)
-    → (k : ℕ) → k < 8192 → (k ≡ i) ⊎ (k ≢ i)
-    → word_at (set ws i v.bits) (set ms (i / 64) m) k ≡ get_or (set (words_of ws ms) i v) k v
-word_after ws ms i m v lw lm small bit others k h (inl e) =
-    let place : i / 64 < length ms = omega arith in
-    let inside : i < length ws = omega arith in
-    let size : i < length (words_of ws ms) = omega (arith, length-words_of ws ms) in
-    let mark : (bit_at (get_or (set ms (i / 64) m) (i / 64) 0) (i % 64) == 1) ≡ v.pointer =
-    ap (λ n. bit_at n (i % 64) == 1) (get_or-set_same ms (i / 64) m 0 place) ∙ mark_again v.pointer (bit_at m (i % 64)) bit in
-    rw e (ap (λ n. record { bits = n; pointer = bit_at (get_or (set ms (i / 64) m) (i / 64) 0) (i % 64) == 1 }) (get_or-set_same ws i v.bits 0 inside)
-    ∙ ap (λ p. record { bits = v.bits; pointer = p }) mark
-    ∙ sym (get_or-set_same (words_of ws ms) i v v size))
-word_after ws ms i m v lw lm small bit others k h (inr ne) =
-    let place : i / 64 < length ms = omega arith in
-    let same_mark : bit_at (get_or (set ms (i / 64) m) (k / 64) 0) (k % 64) ≡ bit_at (get_or ms (k / 64) 0) (k % 64) =
-    mark_elsewhere place (eqb_tells (k / 64) (i / 64)) in
-    ap (λ n. record { bits = n; pointer = bit_at (get_or (set ms (i / 64) m) (k / 64) 0) (k % 64) == 1 }) (get_or-set_other ws i k v.bits 0 ne)
-    ∙ ap (λ n. record { bits = get_or ws k 0; pointer = n == 1 }) same_mark
-    ∙ sym (get_or-words_of ws ms k v h)
-    ∙ sym (get_or-set_other (words_of ws ms) i k v v ne)
-  where
-    mark_elsewhere : i / 64 < length ms → (((k / 64) == (i / 64)) ≡ true) × (k / 64 ≡ i / 64) ⊎ (((k / 64) == (i / 64)) ≡ false) × (k / 64 ≢ i / 64)
-        → bit_at (get_or (set ms (i / 64) m) (k / 64) 0) (k % 64) ≡ bit_at (get_or ms (k / 64) 0) (k % 64)
-    mark_elsewhere place (inl (t, e)) =
-        let apart : k % 64 ≢ i % 64 = omega arith in
-        rw e (ap (λ n. bit_at n (k % 64)) (get_or-set_same ms (i / 64) m 0 place) ∙ others (k % 64) (omega arith) apart)
-    mark_elsewhere place (inr (t, e)) = ap (λ n. bit_at n (k % 64)) (get_or-set_other ms (i / 64) (k / 64) m 0 e)
+    let small : k < 8192 = omega (arith, length-words_of bs ms) in
+    let bits : number_at bs (8 * k) 8 ≡ 0 = ap (λ l. number_at l (8 * k) 8) b ∙ number_at-zeros 65536 (8 * k) 8 (omega arith) in
+    let mark : get_or ms k false ≡ false = ap (λ l. get_or l k false) m ∙ get_or-replicate 8192 k false false small in
+    let same : word_at bs ms k ≡ zero_word =
+    ap (λ n. record { bits = n; pointer = get_or ms k false }) bits ∙ ap (λ p. record { bits = 0; pointer = p }) mark in
+    get_or-words_of bs ms k d small ∙ same ∙ sym (get_or-zero_words 8192 k d small))
 
 pub same_or_not : (k i : ℕ) → (k ≡ i) ⊎ (k ≢ i)
 same_or_not k i = go (eqb_tells k i)
@@ -92,20 +58,101 @@ same_or_not k i = go (eqb_tells k i)
     go (inl (t, e)) = inl e
     go (inr (t, e)) = inr e
 
--- a word written
-pub words_of-set : (ws ms : List ℕ) (i m : ℕ) (v : Value) → length ws ≡ 8192 → length ms ≡ 128 → i < 8192
-    → bit_at m (i % 64) ≡ cond v.pointer 1 0
-    → ((b : ℕ) → b < 64 → b ≢ i % 64 → bit_at m b ≡ bit_at (get_or ms (i / 64) 0) b)
-    → words_of (set ws i v.bits) (set ms (i / 64) m) ≡ set (words_of ws ms) i v
-words_of-set ws ms i m v lw lm small bit others =
-    same_lists (words_of (set ws i v.bits) (set ms (i / 64) m)) (set (words_of ws ms) i v)
-    (length-words_of _ _ ∙ sym (length-set (words_of ws ms) i v ∙ length-words_of ws ms))
+-- a word written: its bytes and its mark are new, and all others as before
+pub words_of-written : (bs cs : List ℕ) (ms ns : List Bool) (i : ℕ) (v : Value) → i < 8192
+    → number_at cs (8 * i) 8 ≡ v.bits → get_or ns i false ≡ v.pointer
+    → ((k : ℕ) → (k < 8 * i) ⊎ (8 * i + 8 ≤ k) → get_or cs k 0 ≡ get_or bs k 0)
+    → ((k : ℕ) → k ≢ i → get_or ns k false ≡ get_or ms k false)
+    → words_of cs ns ≡ set (words_of bs ms) i v
+words_of-written bs cs ms ns i v small bits mark others marks =
+    same_lists (words_of cs ns) (set (words_of bs ms) i v)
+    (length-words_of cs ns ∙ sym (length-set (words_of bs ms) i v ∙ length-words_of bs ms))
     (λ k d h.
-    let h' : k < 8192 = omega (arith, length-words_of (set ws i v.bits) (set ms (i / 64) m)) in
-    let size : k < length (set (words_of ws ms) i v) = omega (arith, length-set (words_of ws ms) i v, length-words_of ws ms) in
-    get_or-words_of (set ws i v.bits) (set ms (i / 64) m) k d h'
-    ∙ word_after ws ms i m v lw lm small bit others k h' (same_or_not k i)
-    ∙ get_or_default (set (words_of ws ms) i v) k v d size)
+    let h' : k < 8192 = omega (arith, length-words_of cs ns) in
+    get_or-words_of cs ns k d h' ∙ go k d h' (same_or_not k i))
+  where
+    go : (k : ℕ) (d : Value) → k < 8192 → (k ≡ i) ⊎ (k ≢ i) → word_at cs ns k ≡ get_or (set (words_of bs ms) i v) k d
+    go k d h (inl e) =
+        let inside : i < length (words_of bs ms) = omega (arith, length-words_of bs ms) in
+        rw e (ap (λ n. record { bits = n; pointer = get_or ns i false }) bits ∙ ap (λ p. record { bits = v.bits; pointer = p }) mark
+        ∙ sym (get_or-set_same (words_of bs ms) i v d inside))
+    go k d h (inr ne) =
+        let same : number_at cs (8 * k) 8 ≡ number_at bs (8 * k) 8 =
+        number_at-same cs bs (8 * k) 8 (λ j low high. others j (apart j low high)) in
+        ap (λ n. record { bits = n; pointer = get_or ns k false }) same
+        ∙ ap (λ p. record { bits = number_at bs (8 * k) 8; pointer = p }) (marks k ne)
+        ∙ sym (get_or-words_of bs ms k d h) ∙ sym (get_or-set_other (words_of bs ms) i k v d ne)
+      where
+        apart : (j : ℕ) → 8 * k ≤ j → j < 8 * k + 8 → (j < 8 * i) ⊎ (8 * i + 8 ≤ j)
+        apart j low high = split (leb_tells (8 * i + 8) j)
+          where
+            split : ((nat_le (8 * i + 8) j ≡ true) × (8 * i + 8 ≤ j)) ⊎ ((nat_le (8 * i + 8) j ≡ false) × (j < 8 * i + 8)) → (j < 8 * i) ⊎ (8 * i + 8 ≤ j)
+            split (inl (e, after)) = inr after
+            split (inr (e, before)) = inl (omega arith)
+
+-- so many bytes of a word that are read
+pub word_read : (bs : List ℕ) (ms : List Bool) (words : List Value) (at w : ℕ) → AreBytes bs → words_of bs ms ≡ words → at < 65536
+    → at % 8 + w ≤ 8 → number_at bs at w ≡ bits_at (at % 8) w (get_or words (at / 8) zero_word).bits
+word_read bs ms words at w small view place inside =
+    let here : at ≡ 8 * (at / 8) + at % 8 = omega arith in
+    ap (λ k. number_at bs k w) here ∙ sym (bits_at-number_at bs small (8 * (at / 8)) (at % 8) w inside)
+    ∙ ap (λ v. bits_at (at % 8) w v.bits) (sym (word_seen bs ms words (at / 8) zero_word view (omega arith)))
+
+-- so many bytes of a word that are written
+pub word_written : (bs cs : List ℕ) (ms : List Bool) (words : List Value) (at w n : ℕ) → AreBytes bs → words_of bs ms ≡ words
+    → at < 65536 → at % 8 + w ≤ 8 → (get_or words (at / 8) zero_word).pointer ≡ false
+    → number_at cs at w ≡ n % 2 ^ (8 * w) → ((k : ℕ) → (k < at) ⊎ (at + w ≤ k) → get_or cs k 0 ≡ get_or bs k 0)
+    → words_of cs ms ≡ set words (at / 8) (record { bits = with_bits (at % 8) w n (get_or words (at / 8) zero_word).bits; pointer = false })
+word_written bs cs ms words at w n small view place inside plain here elsewhere =
+    let i : ℕ = at / 8 in
+    let b : ℕ = at % 8 in
+    let old : Value = get_or words i zero_word in
+    let seen : old ≡ word_at bs ms i = word_seen bs ms words i zero_word view (omega arith) in
+    let at_is : at ≡ 8 * i + b = omega arith in
+    let bits : number_at cs (8 * i) 8 ≡ with_bits b w n old.bits =
+    with_bits-number_at bs small (8 * i) b w inside cs n (ap (λ k. number_at cs k w) (sym at_is) ∙ here) (λ k side. elsewhere k (moved k side))
+    ∙ ap (λ v. with_bits b w n v.bits) (sym seen) in
+    let mark : get_or ms i false ≡ false = ap (λ v. v.pointer) (sym seen) ∙ plain in
+    words_of-written bs cs ms ms i (record { bits = with_bits b w n old.bits; pointer = false }) (omega arith) bits mark
+    (λ k side. elsewhere k (wider k side)) (λ k ne. refl)
+    ∙ ap (λ l. set l i (record { bits = with_bits b w n old.bits; pointer = false })) view
+  where
+    moved : (k : ℕ) → (k < 8 * (at / 8) + at % 8) ⊎ (8 * (at / 8) + at % 8 + w ≤ k) → (k < at) ⊎ (at + w ≤ k)
+    moved k (inl before) = inl (omega arith)
+    moved k (inr after) = inr (omega arith)
+
+    wider : (k : ℕ) → (k < 8 * (at / 8)) ⊎ (8 * (at / 8) + 8 ≤ k) → (k < at) ⊎ (at + w ≤ k)
+    wider k (inl before) = inl (omega arith)
+    wider k (inr after) = inr (omega arith)
+
+-- a word that becomes zero if it holds a pointer, and then gets other bytes
+bits-unmarked : (p : Bool) (v : Value) → (cond p zero_word v).bits ≡ cond p 0 v.bits
+bits-unmarked true v = refl
+bits-unmarked false v = refl
+
+pub number_stored : (words between : List Value) (i b w n : ℕ) → i < length words
+    → between ≡ set words i (unmarked (get_or words i zero_word))
+    → set between i (record { bits = with_bits b w n (get_or between i zero_word).bits; pointer = false })
+    ≡ set words i (with_number b w n (get_or words i zero_word))
+number_stored words between i b w n inside e =
+    let old : Value = get_or words i zero_word in
+    let here : (get_or between i zero_word).bits ≡ cond old.pointer 0 old.bits =
+    ap (λ l. (get_or l i zero_word).bits) e ∙ ap (λ v. v.bits) (get_or-set_same words i (unmarked old) zero_word inside)
+    ∙ bits-unmarked old.pointer old in
+    ap (λ m. set between i (record { bits = with_bits b w n m; pointer = false })) here
+    ∙ ap (λ l. set l i (with_number b w n old)) e ∙ set-set words i (unmarked old) (with_number b w n old)
+
+-- a mark set, and the eight bytes of its word written
+pub value_written : (bs cs : List ℕ) (ms : List Bool) (words : List Value) (i : ℕ) (v : Value) → words_of bs ms ≡ words → i < 8192
+    → length ms ≡ 8192 → v.bits < 2 ^ 64 → number_at cs (8 * i) 8 ≡ v.bits % 2 ^ 64
+    → ((k : ℕ) → (k < 8 * i) ⊎ (8 * i + 8 ≤ k) → get_or cs k 0 ≡ get_or bs k 0)
+    → words_of cs (set ms i v.pointer) ≡ set words i v
+value_written bs cs ms words i v view small size fits here elsewhere =
+    let bits : number_at cs (8 * i) 8 ≡ v.bits = omega arith in
+    let inside : i < length ms = omega arith in
+    words_of-written bs cs ms (set ms i v.pointer) i v small bits (get_or-set_same ms i v.pointer false inside) elsewhere
+    (λ k ne. get_or-set_other ms i k v.pointer false ne)
+    ∙ ap (λ l. set l i v) view
 
 -- ---- pages
 
@@ -176,20 +223,6 @@ whole-push pages p whole size = λ k h.
         let before : k < length pages = omega arith in
         ap length (get_or_append_left pages (p ∷ []) [] k before) ∙ whole k before
 
--- a word that is read
-pub page_read : (ws ms : List ℕ) (i b m : ℕ) (xs : List Value) → length ws ≡ 8192 → length ms ≡ 128 → i < 8192
-    → b ≡ get_or ws i b → m ≡ get_or ms (i / 64) m → words_of ws ms ≡ xs
-    → (d : Value) → record { bits = b; pointer = bit_and (m / 2 ^ (i % 64)) 1 == 1 } ≡ get_or xs i d
-page_read ws ms i b m xs lw lm small first second view d =
-    let bits : b ≡ get_or ws i 0 = get_or_read ws i b (omega arith) first 0 in
-    let marks : m ≡ get_or ms (i / 64) 0 = get_or_read ms (i / 64) m (omega arith) second 0 in
-    let mark : bit_and (m / 2 ^ (i % 64)) 1 ≡ bit_at (get_or ms (i / 64) 0) (i % 64) =
-    shr_and_one m (i % 64) ∙ ap (λ n. bit_at n (i % 64)) marks in
-    ap (λ n. record { bits = n; pointer = bit_and (m / 2 ^ (i % 64)) 1 == 1 }) bits
-    ∙ ap (λ n. record { bits = get_or ws i 0; pointer = n == 1 }) mark
-    ∙ sym (get_or-words_of ws ms i d small)
-    ∙ ap (λ l. get_or l i d) view
-
 -- ---- a word by its number in the region
 
 -- the page of a word is there
@@ -211,6 +244,26 @@ write_paged pages words i v whole view small =
     let place : i ≡ 8192 * (i / 8192) + i % 8192 = omega arith in
     sym (set-joined pages whole (i / 8192) (i % 8192) v (page_inside pages words i whole view small) (omega arith))
     ∙ ap (λ k. set (joined pages) k v) (sym place) ∙ ap (λ l. set l i v) view
+
+-- the same by the number of a byte
+pub byte_page : (pages : List (List Value)) (words : List Value) (at : ℕ) → AreWhole pages → joined pages ≡ words
+    → at / 8 < length words → at / 65536 < length pages
+byte_page pages words at whole view small = omega (arith, length-joined pages whole, ap length view)
+
+pub read_byte : (pages : List (List Value)) (words : List Value) (at : ℕ) (d : Value) → AreWhole pages → joined pages ≡ words
+    → at / 8 < length words → get_or (page_at pages (at / 65536)) (at % 65536 / 8) d ≡ get_or words (at / 8) d
+read_byte pages words at d whole view small =
+    let page : at / 65536 ≡ at / 8 / 8192 = omega arith in
+    let word : at % 65536 / 8 ≡ at / 8 % 8192 = omega arith in
+    rw (page, word) (read_paged pages words (at / 8) d whole view small)
+
+pub write_byte : (pages : List (List Value)) (words : List Value) (at : ℕ) (v : Value) → AreWhole pages → joined pages ≡ words
+    → at / 8 < length words
+    → joined (set pages (at / 65536) (set (page_at pages (at / 65536)) (at % 65536 / 8) v)) ≡ set words (at / 8) v
+write_byte pages words at v whole view small =
+    let page : at / 65536 ≡ at / 8 / 8192 = omega arith in
+    let word : at % 65536 / 8 ≡ at / 8 % 8192 = omega arith in
+    rw (page, word) (write_paged pages words (at / 8) v whole view small)
 
 -- a page of zeros more
 pub grown_page : (pages : List (List Value)) (words p : List Value) → joined pages ≡ words → p ≡ zero_words 8192

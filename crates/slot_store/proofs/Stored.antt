@@ -33,6 +33,13 @@ size_facts region is =
     let even : size_of region % 8 ≡ 0 = eqb-true _ _ both.1 in
     (least, omega arith)
 
+-- the word of a byte, and the byte in it, by the number of the byte in its region
+pub byte_word : (slot size n at : ℕ) → 8 * n ≡ size → (slot * size + at) / 8 ≡ slot * n + at / 8
+byte_word slot size n at e = let turned : slot * size ≡ 8 * (slot * n) = rw (sym e) (omega arith) in omega arith
+
+pub byte_rest : (slot size n at : ℕ) → 8 * n ≡ size → (slot * size + at) % 8 ≡ at % 8
+byte_rest slot size n at e = let turned : slot * size ≡ 8 * (slot * n) = rw (sym e) (omega arith) in omega arith
+
 -- what is seen of the words
 abbrev pub Shows : ℕ → ℕ → ℕ → List Value → Contents → Type 0
 Shows region n count words s = record { region = region; slots = slot_cells n count words } ≡ s
@@ -60,6 +67,11 @@ module _ (region n count : ℕ) (words : List Value) (s : Contents) (kept : AreS
       let less : slot + 1 ≤ count = omega (arith, made_is) in
       let end = mul-le-mul_left n less in
       omega (arith, size_is, end)
+
+  -- bytes are few
+  pub few_bytes : (slot size at : ℕ) → 8 * n ≡ size → slot < made s → at < slot_size s → slot * size + at < 2 ^ 32
+  few_bytes slot size at e small inside =
+      omega (arith, word_inside slot at small inside, few_words, byte_word slot size n at e)
 
   -- the cells of that word
   pub piece_is : (slot at : ℕ) (d : Value) → slot < made s → at < slot_size s
@@ -198,6 +210,10 @@ left_of region n count words s kept seen left =
 pub few_slots : (region : ℕ) → slots region ≤ 65536
 unfolding slots
 few_slots region = omega arith
+
+-- a slot has a whole number of words
+pub whole_words : (region size : ℕ) → IsRegion region → size ≡ size_of region → 8 * (size / 8) ≡ size
+whole_words region size is e = ap (λ m. 8 * (m / 8)) e ∙ (size_facts region is).1 ∙ sym e
 
 -- no slot
 pub no_slots : (region size : ℕ) (words : List Value) → IsRegion region → size ≡ size_of region → words ≡ [] → AreSlots region (size / 8) 0 words

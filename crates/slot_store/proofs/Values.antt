@@ -1,12 +1,13 @@
 -- The cells of words: what a piece of them reads as, and what a store makes of them.
-use Rattle.std.proofs.Common.{◌≡◌, ◌≢◌, ℕ, zero, suc, ◌+◌, ◌-◌, ◌*◌, ◌/◌, ◌%◌, ◌^◌, ◌<◌, ◌≤◌, Bool, true, false, cond, List, ◌∷◌, ◌++◌, length, take, drop, map, Some, None, refl, sym, ap, ◌∙◌, arith, append_assoc, lit≤, inl, inr}
-use Rattle.std.specs.Prelude.{◌⊎◌}
+use Rattle.std.proofs.Common.{◌≡◌, ◌≢◌, ℕ, zero, suc, ◌+◌, ◌-◌, ◌*◌, ◌/◌, ◌%◌, ◌^◌, ◌<◌, ◌≤◌, Bool, true, false, cond, List, ◌∷◌, ◌++◌, length, take, drop, map, Option, Some, None, refl, sym, ap, subst, ◌∙◌, arith, append_assoc, lit≤, inl, inr}
+use Rattle.std.specs.Prelude.{◌⊎◌, IfSome}
 use Rattle.std.specs.Int.{w64, to_le_bytes}
+use Rattle.std.proofs.lemmas.Nat.{mod_below, pow_pos}
 use Rattle.std.proofs.Math.Seq.{take-append-add, drop-append-add}
 use Rattle.std.proofs.lemmas.List.{take_at, length-append, length-take, length-drop, take-append-drop, take-append-le, take-take, drop-append-le, drop-drop, drop-take, map-append}
 use Rattle.slot_headers.specs.declared.value.Value.{Value}
 use Rattle.slot_store.specs.Cells.{Cell, Byte, bytes, parts, value_cells, put, number_in, pointer_in, pointer_at, null_of, pointer_or_null, cells_at, without_mark, without_pointer, after_store, byte_in}
-use Rattle.slot_store.specs.Words.{bits_at, with_bits}
+use Rattle.slot_store.specs.Words.{bits_at, with_bits, number_in_word}
 use Rattle.slot_store.proofs.Digits.{length-bytes, number_in-bytes, put_between, cells_at-bytes, put-bytes, map-byte_le, map-byte_in-byte, map-byte_in-parts}
 
 -- ---- eight cells
@@ -60,6 +61,16 @@ pub loaded : (k w : ℕ) (cells : List Cell) (v : Value) → 1 ≤ w → k % 8 +
     → number_in (cells_at k w cells) ≡ cond v.pointer None (Some (bits_at (k % 8) w v.bits))
 loaded k w cells v some inside here =
     ap number_in (cells_inside k w cells inside ∙ ap (cells_at (k % 8) w) here) ∙ number_in-cells v.pointer v.bits (k % 8) w some inside
+
+-- a number that is read has no more bytes than that
+some-small : (p : Bool) (n b w : ℕ) → IfSome (cond p None (Some (bits_at b w n))) (λ m. m < 2 ^ (8 * w))
+some-small true n b w = tt
+some-small false n b w = mod_below (n / 2 ^ (8 * b)) (2 ^ (8 * w)) (pow_pos (8 * w))
+
+pub in_word-small : (b w : ℕ) (v : Value) (read : Option ℕ) → read ≡ number_in_word b w v → IfSome read (λ m. m < 2 ^ (8 * w))
+in_word-small b w v read e =
+    let P : Option ℕ → Type 0 = λ r. IfSome r (λ m. m < 2 ^ (8 * w)) in
+    subst P (sym e) (some-small v.pointer v.bits b w)
 
 -- what a load of a pointer gives
 pub null_as : (n : ℕ) → n ≢ 0 → null_of n ≡ None

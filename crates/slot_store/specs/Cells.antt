@@ -1,5 +1,5 @@
--- What the bytes of a slot hold. A whole number is its bytes (C11 6.2.6.1), the lowest first. A pointer stands in an aligned piece
--- of eight cells as one word, of which each cell is a part.
+-- What the bytes of a slot hold. A whole number is its bytes (C11 6.2.6.1), the lowest first. A pointer stands in an
+-- aligned piece of eight cells as one word, of which each cell is a part.
 use Rattle.std.specs.Prelude.{ℕ, zero, suc, ◌+◌, ◌*◌, ◌/◌, ◌%◌, ◌^◌, Bool, not, ◌||◌, ◌==◌, if◌then◌else◌, IsTrue}
 use Rattle.std.specs.Prelude.{List, [], ◌∷◌, ◌++◌, map, length, take, drop, replicate, Option, Some, None, option_map}
 use Rattle.slot_headers.specs.declared.value.Value.{Value}

@@ -1,4 +1,5 @@
 pub mod Cells
+pub mod Numbers
 pub mod Pages
 pub mod Slots
 pub mod Words

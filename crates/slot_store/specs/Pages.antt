@@ -1,22 +1,22 @@
--- Pages of words, with a mark for each word.
-use Rattle.std.specs.Prelude.{◌≡◌, ℕ, ◌/◌, ◌%◌, ◌<◌, ◌==◌, List, [], map, length, slice_index, slice_index_or}
+-- Pages of bytes, with a mark for each word of eight bytes.
+use Rattle.std.specs.Prelude.{◌≡◌, ℕ, ◌*◌, ◌<◌, Bool, false, List, [], map, length, slice_index_or}
 use Rattle.std.specs.List.{flat_map, range_with_len}
-use Rattle.std.specs.Int.{bit_at}
 use Rattle.slot_headers.specs.declared.value.Value.{Value}
+use Rattle.slot_store.specs.Numbers.{number_at}
 
--- how many words a page of 65,536 bytes has, and how many numbers have a bit for each
+-- how many bytes a page has, and how many words of eight bytes
+abbrev pub page_bytes : ℕ
+page_bytes = 65536
+
 abbrev pub page_words : ℕ
 page_words = 8192
 
-abbrev pub mark_words : ℕ
-mark_words = 128
+-- word i of a page, with mark i
+abbrev pub word_at : List ℕ → List Bool → ℕ → Value
+word_at bytes marks i = record { bits = number_at bytes (8 * i) 8; pointer = slice_index_or marks i false }
 
--- word i of a page, marked where bit i of the marks is 1
-abbrev pub word_at : List ℕ → List ℕ → ℕ → Value
-word_at words marks i = record { bits = slice_index words i; pointer = bit_at (slice_index marks (i / 64)) (i % 64) == 1 }
-
-unfoldable pub words_of : List ℕ → List ℕ → List Value
-words_of words marks = map (word_at words marks) (range_with_len 0 page_words)
+unfoldable pub words_of : List ℕ → List Bool → List Value
+words_of bytes marks = map (word_at bytes marks) (range_with_len 0 page_words)
 
 -- the words of pages, one page after another
 unfoldable pub joined : List (List Value) → List Value

@@ -1,5 +1,6 @@
 -- The words that a slot's cells are kept in, and what is kept true of them.
-use Rattle.std.specs.Prelude.{◌≡◌, ℕ, ◌+◌, ◌-◌, ◌*◌, ◌/◌, ◌%◌, ◌^◌, ◌≤◌, false, List, map, length, take, drop, replicate}
+use Rattle.std.specs.Prelude.{◌≡◌, ℕ, ◌+◌, ◌-◌, ◌*◌, ◌/◌, ◌%◌, ◌^◌, ◌≤◌, false, if◌then◌else◌}
+use Rattle.std.specs.Prelude.{List, map, length, take, drop, replicate, Option, Some, None}
 use Rattle.std.specs.List.{flat_map, range_with_len}
 use Rattle.slot_headers.specs.declared.value.Value.{Value}
 use Rattle.lowfat_regions.specs.Regions as regions
@@ -22,6 +23,18 @@ abbrev pub with_bits : ℕ → ℕ → ℕ → ℕ → ℕ
 with_bits b w new n =
     n % 2 ^ (8 * b) + 2 ^ (8 * b) * (new % 2 ^ (8 * w) + 2 ^ (8 * w) * (n / 2 ^ (8 * b) / 2 ^ (8 * w)))
 
+-- a word as it is when a whole number is stored in it: zero if it holds a pointer
+abbrev pub unmarked : Value → Value
+unmarked v = if v.pointer then zero_word else v
+
+-- the number of w bytes at b of a word, and none if it holds a pointer
+abbrev pub number_in_word : ℕ → ℕ → Value → Option ℕ
+number_in_word b w v = if v.pointer then None else Some (bits_at b w v.bits)
+
+-- the word with w bytes of a number in place of those at b
+abbrev pub with_number : ℕ → ℕ → ℕ → Value → Value
+with_number b w n v = record { bits = with_bits b w n (if v.pointer then 0 else v.bits); pointer = false }
+
 -- the cells of words, one after another
 unfoldable pub cells : List Value → List Cell
 cells words = flat_map value_cells words
@@ -34,7 +47,12 @@ slot_words n words s = take n (drop (s * n) words)
 unfoldable pub slot_cells : ℕ → ℕ → List Value → List (List Cell)
 slot_cells n count words = map (λ s. cells (slot_words n words s)) (range_with_len 0 count)
 
--- What is kept of a region's slots: each has n words, those of the made ones are there, and all words past them are zero.
+-- So many bytes are a whole number of words.
+abbrev pub IsWholeWords : ℕ → Type 0
+IsWholeWords size = 8 * (size / 8) ≡ size
+
+-- What is kept of a region's slots: each has n words, those of the made ones are there, and all words past them are
+-- zero.
 pub record AreSlots (region n count : ℕ) (words : List Value) : Type 0 where
   pub region_is : IsRegion region
   pub size : 8 * n ≡ regions.size_of region

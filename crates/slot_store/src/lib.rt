@@ -1,8 +1,8 @@
 //! The bytes and marks of one region's slots.
 #![tactic(auto)]
 
-mod bits;
 mod header_words;
+mod numbers;
 mod page;
 mod pages;
 mod store;

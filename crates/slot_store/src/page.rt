@@ -1,83 +1,179 @@
-//! A page of memory: words of 64 bits, with a mark for each that holds a pointer.
+//! A page of memory: bytes, with a mark for each word of eight that holds a pointer.
 
-ghost use Rattle.std.specs.Prelude.{◌≡◌, ◌≢◌, ◌<◌, ℕ, slice_index_or, slice_set, if◌then◌else◌, IfOk};
-ghost use Rattle.std.specs.Int.{bit_at};
-ghost use Rattle.slot_store.specs.Pages.{page_words};
-ghost use Rattle.slot_store.specs.Words.{zero_words};
+ghost use Rattle.std.specs.Prelude.{◌≡◌, ◌+◌, ◌/◌, ◌%◌, ◌<◌, ◌≤◌, false, slice_index_or, slice_set, IfOk};
+ghost use Rattle.slot_store.specs.Cells.{IsWidth};
+ghost use Rattle.slot_store.specs.Pages.{page_words, page_bytes};
+ghost use Rattle.slot_store.specs.Words.{zero_word, zero_words, bits_at, with_bits};
+ghost use Rattle.slot_store.specs.Words.{unmarked, number_in_word, with_number};
 
+use crate::numbers::{law_bytes, read_number, write_number};
 use slot_headers::Value;
 use std::alloc::{AllocError, Global};
 use std::marker::Model;
 
-/// The words of a page, which has 65,536 bytes.
+/// The bytes of a page.
+pub(crate) const PAGE_BYTES: usize = 65536;
+
+/// The words of a page.
 pub(crate) const PAGE_WORDS: usize = 8192;
 
-/// The marks that one number holds.
-const MARK_BITS: usize = 64;
+/// The bytes of a page, and for each word whether it holds a pointer. They are one piece of memory, so that one look-up
+/// finds both.
+#[derive(Drop)]
+struct Frame {
+    bytes: [u8; PAGE_BYTES],
+    marks: [bool; PAGE_WORDS],
+}
 
-/// The words of a page, and a bit for each.
+/// The words of a page with their marks.
 #[derive(Drop)]
 pub(crate) struct Page {
-    words: Vec<u64>,
-    marks: Vec<u64>,
+    frame: Box<Frame>,
 }
 
 impl Model for Page {
     ghost use Rattle.std.specs.Prelude.{◌≡◌, List, length};
     ghost use Rattle.slot_headers.specs.declared.value.Value.{Value as Word};
-    ghost use Rattle.slot_store.specs.Pages.{words_of, page_words, mark_words};
+    ghost use Rattle.slot_store.specs.Pages.{words_of, page_bytes, page_words};
 
     ghost Value = { List Word };
 
-    ghost view = { λ p. words_of p.words.items p.marks.items };
+    ghost view = { λ p. words_of p.frame.value.bytes p.frame.value.marks };
 
-    ghost invariant = { λ p. (length p.words.items ≡ page_words) × (length p.marks.items ≡ mark_words) };
-}
-
-/// A number with one of its bits set or cleared.
-#[inline]
-fn with_bit(number: u64, bit: u32, value: bool) -> u64
-    requires { bit < 64 }
-    ensures bit { bit_at result bit ≡ (if value then 1 else 0) }
-    ensures others { (k : ℕ) → k < 64 → k ≢ bit → bit_at result k ≡ bit_at number k }
-{
-    if value {
-        number | (1 << bit)
-    } else {
-        number & !(1 << bit)
-    }
+    ghost invariant = { λ p. (length p.frame.value.bytes ≡ page_bytes) × (length p.frame.value.marks ≡ page_words) };
 }
 
 impl Page {
     /// A page of zeros, none of them marked.
+    #[cold]
     pub(crate) fn new(alloc: Global) -> Result<Page, AllocError>
         ensures { IfOk result (λ p. p ≡ zero_words page_words) }
     {
-        let words = vec![in alloc; 0; PAGE_WORDS]?;
-        let marks = vec![in alloc; 0; PAGE_WORDS / MARK_BITS]?;
-        Ok(Page { words, marks })
+        let frame = Box::new(
+            alloc,
+            Frame {
+                bytes: [0; PAGE_BYTES],
+                marks: [false; PAGE_WORDS],
+            },
+        )?;
+        Ok(Page { frame })
     }
 
     /// A word and its mark.
     #[inline]
-    pub(crate) fn get(&self, at: usize) -> Value
-        requires { at < page_words }
-        ensures { result ≡ slice_index_or self.now at result }
+    pub(crate) fn get(&self, word: usize) -> Value
+        requires { word < page_words }
+        ensures { result ≡ slice_index_or self.now word result }
     {
+        let frame = &*self.frame;
         Value {
-            bits: self.words[at],
-            pointer: (self.marks[at / MARK_BITS] >> (at % MARK_BITS)) & 1 == 1,
+            bits: read_number(&frame.bytes, 8 * word, 8),
+            pointer: frame.marks[word],
         }
     }
 
     /// Writes a word and its mark.
     #[inline]
-    pub(crate) fn set(&mut self, at: usize, value: Value)
-        requires { at < page_words }
-        ensures { self.new ≡ slice_set self.old at value }
+    pub(crate) fn set(&mut self, word: usize, value: Value)
+        requires { word < page_words }
+        ensures { self.new ≡ slice_set self.old word value }
     {
-        self.words[at] = value.bits;
-        let marks = self.marks[at / MARK_BITS];
-        self.marks[at / MARK_BITS] = with_bit(marks, (at % MARK_BITS) as u32, value.pointer);
+        let frame = &mut *self.frame;
+        frame.marks[word] = value.pointer;
+        write_number(&mut frame.bytes, 8 * word, 8, value.bits);
+    }
+
+    /// Whether a word holds a pointer.
+    #[inline]
+    fn is_marked(&self, word: usize) -> bool
+        requires { word < page_words }
+        ensures { result ≡ (slice_index_or self.now word zero_word).pointer }
+    {
+        let frame = &*self.frame;
+        frame.marks[word]
+    }
+
+    /// The number of so many bytes of a word, from one of its bytes on.
+    #[inline]
+    fn read(&self, at: usize, width: u32) -> u64
+        requires place { at < page_bytes }
+        requires width { IsWidth width }
+        requires inside { at % 8 + width ≤ 8 }
+        ensures { result ≡ bits_at (at % 8) width (slice_index_or self.now (at / 8) zero_word).bits }
+    {
+        let frame = &*self.frame;
+        law_bytes(&frame.bytes);
+        read_number(&frame.bytes, at, width)
+    }
+
+    /// Writes so many bytes of a word that holds no pointer, from one of its bytes on.
+    #[inline]
+    fn write(&mut self, at: usize, width: u32, number: u64)
+        requires place { at < page_bytes }
+        requires width { IsWidth width }
+        requires inside { at % 8 + width ≤ 8 }
+        requires plain { (slice_index_or self.old (at / 8) zero_word).pointer ≡ false }
+        ensures { let old = slice_index_or self.old (at / 8) zero_word in
+            let new = with_bits (at % 8) width number old.bits in
+            self.new ≡ slice_set self.old (at / 8) (record { bits = new; pointer = false }) }
+    {
+        let frame = &mut *self.frame;
+        law_bytes(&frame.bytes);
+        write_number(&mut frame.bytes, at, width, number);
+    }
+
+    /// Makes a word zero. This is rare, so it is no part of the code of a store.
+    #[cold]
+    #[inline(never)]
+    fn erase(&mut self, word: usize)
+        requires { word < page_words }
+        ensures { self.new ≡ slice_set self.old word zero_word }
+    {
+        self.set(
+            word,
+            Value {
+                bits: 0,
+                pointer: false,
+            },
+        );
+    }
+
+    /// Makes a word zero if it holds a pointer.
+    #[inline]
+    fn unmark(&mut self, word: usize)
+        requires { word < page_words }
+        ensures { self.new ≡ slice_set self.old word (unmarked (slice_index_or self.old word zero_word)) }
+    {
+        if self.is_marked(word) {
+            self.erase(word);
+        }
+    }
+
+    /// The number of so many bytes of a word, from one of its bytes on, and none where the word holds a pointer.
+    #[inline]
+    pub(crate) fn load(&self, at: usize, width: u32) -> Option<u64>
+        requires place { at < page_bytes }
+        requires width { IsWidth width }
+        requires inside { at % 8 + width ≤ 8 }
+        ensures { result ≡ number_in_word (at % 8) width (slice_index_or self.now (at / 8) zero_word) }
+    {
+        if self.is_marked(at / 8) {
+            return None;
+        }
+        Some(self.read(at, width))
+    }
+
+    /// Writes so many bytes of a word, from one of its bytes on. Where the word holds a pointer it becomes zero first.
+    #[inline]
+    pub(crate) fn store(&mut self, at: usize, width: u32, number: u64)
+        requires place { at < page_bytes }
+        requires width { IsWidth width }
+        requires inside { at % 8 + width ≤ 8 }
+        ensures { let old = slice_index_or self.old (at / 8) zero_word in
+            self.new ≡ slice_set self.old (at / 8) (with_number (at % 8) width number old) }
+    {
+        let _frame = &self.frame;
+        self.unmark(at / 8);
+        self.write(at, width, number);
     }
 }

@@ -1,14 +1,12 @@
 //! The bytes and marks of the slots of one region.
 
-ghost use Rattle.std.specs.Prelude.{◌≡◌, ◌+◌, ◌*◌, ◌/◌, ◌%◌, ◌^◌, ◌<◌, ◌≤◌, [], ◌∷◌, ◌++◌};
-ghost use Rattle.std.specs.Prelude.{if◌then◌else◌, IfOk, OnErr, IfSome};
+ghost use Rattle.std.specs.Prelude.{◌≡◌, ◌+◌, ◌*◌, ◌/◌, ◌%◌, ◌^◌, ◌<◌, ◌≤◌, [], ◌∷◌, ◌++◌, IfOk, OnErr, IfSome};
 ghost use Rattle.lowfat_regions.specs.Regions.{IsRegion, slots, size_of};
 ghost use Rattle.slot_headers.specs.Headers.{bytes_of, header_version_bound};
 ghost use Rattle.slot_store.specs.Cells.{IsWidth, bytes, parts, zeros, cells_at, number_in, pointer_at, pointer_value};
 ghost use Rattle.slot_store.specs.Cells.{value_cells, put, after_store, header_bytes, header_cells};
 ghost use Rattle.slot_store.specs.Slots.{Contents, made, slot_size, cells_of, with_cells, with_cells_at, HasWholeSlots};
 
-use crate::bits::{WORD_BYTES, bytes_at, with_bytes_at};
 use crate::header_words::{bytes_of_words, words_of};
 use crate::pages::Pages;
 use lowfat_regions::size_of_region;
@@ -16,42 +14,38 @@ use slot_headers::{Header, Value};
 use std::alloc::{AllocError, Global};
 use std::marker::Model;
 
-/// The slots of a region that were made so far. Contracts see each as a list of cells, one for each byte. A cell is a byte,
-/// or one of the eight parts of a pointer word. `at` is the offset of a byte in a slot.
+/// The bytes of a word.
+const WORD_BYTES: usize = 8;
+
+/// The slots of a region that were made so far. Contracts see each as a list of cells, one for each byte. A cell is a
+/// byte, or one of the eight parts of a pointer word. `at` is the offset of a byte in a slot.
 #[derive(Drop)]
 pub struct Store {
     region: u32,
-    slot_words: usize,
+    slot_bytes: usize,
     made: u32,
     pages: Pages,
 }
 
 impl Model for Store {
+    ghost use Rattle.std.specs.Prelude.{◌/◌};
     ghost use Rattle.slot_store.specs.Slots.{Contents};
-    ghost use Rattle.slot_store.specs.Words.{slot_cells, AreSlots};
+    ghost use Rattle.slot_store.specs.Words.{slot_cells, IsWholeWords, AreSlots};
 
     ghost Value = { Contents };
 
-    ghost view = { λ s. record { region = s.region; slots = slot_cells s.slot_words s.made s.pages } };
+    ghost view = { λ s. record { region = s.region; slots = slot_cells (s.slot_bytes / 8) s.made s.pages } };
 
-    ghost invariant = { λ s. AreSlots s.region s.slot_words s.made s.pages };
+    ghost invariant = { λ s. IsWholeWords s.slot_bytes × AreSlots s.region (s.slot_bytes / 8) s.made s.pages };
 }
 
-/// The number in its region of the word of a byte.
+/// The number of a byte in its region.
 #[inline]
-fn word_number(slot_words: usize, slot: u32, at: u32) -> usize
-    requires { slot * slot_words + at / 8 < 2 ^ 32 }
-    ensures { result ≡ slot * slot_words + at / 8 }
+fn byte_number(slot_bytes: usize, slot: u32, at: u32) -> usize
+    requires { slot * slot_bytes + at < 2 ^ 32 }
+    ensures { result ≡ slot * slot_bytes + at }
 {
-    slot as usize * slot_words + (at / WORD_BYTES) as usize
-}
-
-/// The bits of a plain word, and 0 of a pointer word.
-#[inline]
-fn plain_bits(piece: Value) -> u64
-    ensures { result ≡ (if piece.pointer then 0 else piece.bits) }
-{
-    if piece.pointer { 0 } else { piece.bits }
+    slot as usize * slot_bytes + at as usize
 }
 
 /// Each slot that was made has the bytes of a slot of the region, and there are no more than the region has.
@@ -69,7 +63,7 @@ impl Store {
     {
         Store {
             region,
-            slot_words: size_of_region(region) as usize / WORD_BYTES as usize,
+            slot_bytes: size_of_region(region) as usize,
             made: 0,
             pages: Pages::new(alloc),
         }
@@ -83,8 +77,8 @@ impl Store {
         self.made
     }
 
-    /// Makes the next slot, of zero bytes without a mark, and answers its number. Its memory is there before it is, and pages
-    /// that were got before an error serve the next call.
+    /// Makes the next slot, of zero bytes without a mark, and answers its number. Its memory is there before it is, and
+    /// pages that were got before an error serve the next call.
     pub fn open_slot(&mut self) -> Result<u32, AllocError>
         requires { made self.old < slots self.old.region }
         ensures region { self.new.region ≡ self.old.region }
@@ -93,7 +87,8 @@ impl Store {
         ensures err { OnErr result (self.new ≡ self.old) }
     {
         let slot = self.made;
-        self.pages.make_room((slot as usize + 1) * self.slot_words)?;
+        let words = self.slot_bytes / WORD_BYTES;
+        self.pages.make_room((slot as usize + 1) * words)?;
         self.made = slot + 1;
         Ok(slot)
     }
@@ -103,8 +98,8 @@ impl Store {
         requires { slot < made self.old }
         ensures { self.new ≡ with_cells self.old slot (zeros (slot_size self.old)) }
     {
-        self.pages
-            .clear(slot as usize * self.slot_words, self.slot_words);
+        let words = self.slot_bytes / WORD_BYTES;
+        self.pages.clear(slot as usize * words, words);
     }
 
     /// The aligned piece of eight bytes round a byte, with its mark.
@@ -114,7 +109,8 @@ impl Store {
         requires inside { at < slot_size self.now }
         ensures { cells_at (8 * (at / 8)) 8 (cells_of self.now slot) ≡ value_cells result }
     {
-        self.pages.get(word_number(self.slot_words, slot, at))
+        let byte = byte_number(self.slot_bytes, slot, at);
+        self.pages.get(byte / WORD_BYTES)
     }
 
     /// Writes the aligned piece of eight bytes round a byte, with its mark.
@@ -124,8 +120,8 @@ impl Store {
         requires inside { at < slot_size self.old }
         ensures { self.new ≡ with_cells_at self.old slot (8 * (at / 8)) (value_cells value) }
     {
-        self.pages
-            .set(word_number(self.slot_words, slot, at), value);
+        let byte = byte_number(self.slot_bytes, slot, at);
+        self.pages.set(byte / WORD_BYTES, value);
     }
 
     /// The bytes at an offset as a little-endian number (C11 6.2.6.1), and none where one is a part of a pointer word.
@@ -138,9 +134,8 @@ impl Store {
         ensures value { result ≡ number_in (cells_at at width (cells_of self.now slot)) }
         ensures range { IfSome result (λ n. n < 2 ^ (8 * width)) }
     {
-        let piece = self.piece(slot, at);
-        let number = bytes_at(piece.bits, at % WORD_BYTES, width);
-        if piece.pointer { None } else { Some(number) }
+        let byte = byte_number(self.slot_bytes, slot, at);
+        self.pages.load(byte, width)
     }
 
     /// Stores the low bytes of a whole number. A pointer word round them becomes zero first.
@@ -152,16 +147,8 @@ impl Store {
         requires inside { at + width ≤ slot_size self.old }
         ensures { self.new ≡ with_cells self.old slot (after_store at width bits (cells_of self.old slot)) }
     {
-        let plain = plain_bits(self.piece(slot, at));
-        let new = with_bytes_at(plain, at % WORD_BYTES, width, bits);
-        self.put_piece(
-            slot,
-            at,
-            Value {
-                bits: new,
-                pointer: false,
-            },
-        );
+        let byte = byte_number(self.slot_bytes, slot, at);
+        self.pages.store(byte, width, bits);
     }
 
     /// A pointer word, 0 for eight zero bytes, and none for other bytes.

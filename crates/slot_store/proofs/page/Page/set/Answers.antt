@@ -1,15 +1,12 @@
-use Rattle.std.proofs.Common.{◌≡◌, ◌/◌, ◌∙◌, ap, get_or, arith}
-use Rattle.std.specs.Int.{bit_at}
-use Rattle.std.proofs.Math.ListN.{set}
-use Rattle.std.proofs.lemmas.List.{get_or_read}
-use Rattle.slot_store.proofs.Paging.{words_of-set}
+use Rattle.std.proofs.Common.{◌≡◌, ◌∙◌, ap, arith}
+use Rattle.slot_store.specs.Pages.{words_of}
+use Rattle.slot_store.specs.declared.page.Frame.{Frame}
+use Rattle.slot_store.proofs.Paging.{value_written}
 use Rattle.slot_store.proofs.page.Page.set.Goals as goal
 
 pub returns : goal.returns
 returns c =
-    let marks : c.index-marks.result.now ≡ get_or c.self.inside.marks.items (c.args.at / 64) 0 =
-    get_or_read c.self.inside.marks.items (c.args.at / 64) c.index-marks.result.now (omega (arith, c.self.invariant.1, c.requires)) c.index-marks.ensures 0 in
-    words_of-set c.self.inside.words.items c.self.inside.marks.items c.args.at c.with_bit.result c.args.value
-    c.self.invariant.0 c.self.invariant.1 c.requires c.with_bit.ensures.bit
-    (λ b h ne. c.with_bit.ensures.others b h ne ∙ ap (λ m. bit_at m b) marks)
-    ∙ ap (λ l. set l c.args.at c.args.value) c.self.view_is
+    let frame : Frame = c.deref_mut-frame.result.now in
+    let view : words_of frame.bytes frame.marks ≡ c.args.self.now = ap (λ (f : Frame). words_of f.bytes f.marks) c.deref_mut-frame.ensures.value ∙ c.self.view_is in
+    value_written frame.bytes c.write_number.new.bytes frame.marks c.args.self.now c.args.word c.args.value view c.requires
+    (omega arith) (omega arith) c.write_number.ensures.here c.write_number.ensures.elsewhere

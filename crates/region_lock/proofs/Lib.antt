@@ -1,0 +1,4 @@
+pub mod Closings
+pub mod Entries
+pub mod Keeps
+pub mod Sums

@@ -1,0 +1,10 @@
+pub mod Entries
+pub mod Weights
+pub mod Boxes
+pub mod Rule
+pub mod Plays
+pub mod Passes
+pub mod Known
+pub mod Inside
+pub mod Closing
+pub mod Shown
