@@ -1,8 +1,11 @@
 //! Types, and bounds in objects of whole numbers.
 
+ghost use Rattle.std.specs.Prelude.{◌≡◌, IfOk};
+ghost use Rattle.c_types.specs.Table.{IsNumber, basic_types};
+
 use crate::numbers::is_whole_number;
 use c_types::{CType, TypeNo, TypeTable};
-use std::alloc::Global;
+use std::alloc::{AllocError, Global};
 use std::test::Fail;
 use type_layout::{Run, preferred, runs};
 
@@ -34,6 +37,14 @@ fn bounds(
     Ok(preferred(&types, elem, size, runs.as_slice(), k, want).map(|found| (found.lo, found.hi)))
 }
 
+/// The number of the type of pointers to `int`, which a new table gets.
+fn pointer_to_int(types: &mut TypeTable) -> Result<TypeNo, AllocError>
+    requires { types.old ≡ basic_types }
+    ensures { IfOk result (λ pointer. IsNumber types.new pointer) }
+{
+    types.add_pointer(INT)
+}
+
 #[test]
 fn the_nine_types_have_their_sizes(rt: HostRuntime) -> Result<(), Fail> {
     let mut types = TypeTable::new(rt.alloc())?;
@@ -48,7 +59,7 @@ fn the_nine_types_have_their_sizes(rt: HostRuntime) -> Result<(), Fail> {
     assert_eq!(rt; types.size_of(9), Some(8));
     assert_eq!(rt; types.align_of(9), Some(8));
     assert_eq!(rt; types.get(CHAR), CType::Num(1, true));
-    let pointer = types.add_pointer(INT)?;
+    let pointer = pointer_to_int(&mut types)?;
     assert_eq!(rt; pointer, 10);
     assert_eq!(rt; types.size_of(pointer), Some(8));
     Ok(())
