@@ -6,8 +6,4 @@ mod heap;
 #[cfg(test)]
 mod layout;
 #[cfg(test)]
-mod made_types;
-#[cfg(test)]
-mod members;
-#[cfg(test)]
 mod numbers;

@@ -113,9 +113,6 @@ fn add_many(alloc: Global, types: &mut TypeTable) -> Result<(), Fail> {
     let pairs = array(types, pair, 2)?;
     let side = tagged(alloc, types, true, &[pairs, to_void])?;
     array(types, side, 2)?;
-    pointer(types, pair)?;
-    array(types, to_void, 4)?;
-    array(types, to_char, 5)?;
     Ok(())
 }
 
