@@ -1,0 +1,4 @@
+pub mod ValueEquations
+pub mod StatementEquations
+pub mod Counting
+mod Cases
