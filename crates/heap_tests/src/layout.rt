@@ -1,11 +1,8 @@
 //! Types, and bounds in objects of whole numbers.
 
-ghost use Rattle.std.specs.Prelude.{◌≡◌, IfOk};
-ghost use Rattle.c_types.specs.Table.{IsNumber, basic_types};
-
 use crate::numbers::is_whole_number;
-use c_types::{CType, TypeNo, TypeTable};
-use std::alloc::{AllocError, Global};
+use c_types::{TypeNo, TypeTable};
+use std::alloc::Global;
 use std::test::Fail;
 use type_layout::{Run, preferred, runs};
 
@@ -35,34 +32,6 @@ fn bounds(
     let types = TypeTable::new(alloc)?;
     let runs = runs(alloc, &types, elem, size)?;
     Ok(preferred(&types, elem, size, runs.as_slice(), k, want).map(|found| (found.lo, found.hi)))
-}
-
-/// The number of the type of pointers to `int`, which a new table gets.
-fn pointer_to_int(types: &mut TypeTable) -> Result<TypeNo, AllocError>
-    requires { types.old ≡ basic_types }
-    ensures { IfOk result (λ pointer. IsNumber types.new pointer) }
-{
-    types.add_pointer(INT)
-}
-
-#[test]
-fn the_nine_types_have_their_sizes(rt: HostRuntime) -> Result<(), Fail> {
-    let mut types = TypeTable::new(rt.alloc())?;
-    assert_eq!(rt; types.size_of(1), None);
-    assert_eq!(rt; types.size_of(CHAR), Some(1));
-    assert_eq!(rt; types.size_of(UNSIGNED_CHAR), Some(1));
-    assert_eq!(rt; types.size_of(SHORT), Some(2));
-    assert_eq!(rt; types.size_of(5), Some(2));
-    assert_eq!(rt; types.size_of(INT), Some(4));
-    assert_eq!(rt; types.size_of(UNSIGNED_INT), Some(4));
-    assert_eq!(rt; types.size_of(LONG), Some(8));
-    assert_eq!(rt; types.size_of(9), Some(8));
-    assert_eq!(rt; types.align_of(9), Some(8));
-    assert_eq!(rt; types.get(CHAR), CType::Num(1, true));
-    let pointer = pointer_to_int(&mut types)?;
-    assert_eq!(rt; pointer, 10);
-    assert_eq!(rt; types.size_of(pointer), Some(8));
-    Ok(())
 }
 
 #[test]
