@@ -54,7 +54,7 @@ pub record IsSlot (s : Slot) : Type 0 where
   pub below : s.region ≤ 27
   pub number : s.number < slots s.region
 
-is_region : (a r : ℕ) → region_of a ≡ Some r → (1 ≤ r) × (r ≤ 27)
+pub is_region : (a r : ℕ) → region_of a ≡ Some r → (1 ≤ r) × (r ≤ 27)
 unfolding region_of
 is_region a r e = grind arith
 

@@ -11,7 +11,7 @@ size_below : (index : ℕ) → index < 27 → get_or sizes index 0 ≤ 2 ^ 20
 unfolding size_of
 size_below index h = let k : (index + 1 - 1) ≡ index = omega arith in rw k at (size_ok (index + 1) (omega arith)).1
 
-count_of_sizes : length sizes ≡ 27
+pub count_of_sizes : length sizes ≡ 27
 unfolding sizes
 count_of_sizes = refl
 

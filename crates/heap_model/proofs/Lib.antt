@@ -12,6 +12,12 @@ pub mod State
 pub mod Push
 pub mod Performed
 pub mod Checks
+pub mod CellLists
+pub mod Pieces
+pub mod Replies
 pub mod Puts
 pub mod Sorting
 pub mod Unique
+pub mod Makers
+pub mod Restricted
+pub mod Extension

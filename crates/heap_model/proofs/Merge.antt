@@ -34,10 +34,10 @@ all-filter {X} P p (x ∷ xs) all = go (p x) all.0 (all-filter P p xs all.1)
 pub before-asym : (e f : Entry) → before e f ≡ true → before f e ≡ true → ⊥
 before-asym e f p q = grind (arith, p, q)
 
-before-from_stamps : (e f : Entry) → e.stamp < f.stamp → before e f ≡ true
+pub before-from_stamps : (e f : Entry) → e.stamp < f.stamp → before e f ≡ true
 before-from_stamps e f h = or_left _ _ (lt-ltb _ _ h)
 
-all-map : {P Q : Entry → Type 0} → ((e : Entry) → P e → Q e) → (es : List Entry) → AllByRecursion P es → AllByRecursion Q es
+pub all-map : {P Q : Entry → Type 0} → ((e : Entry) → P e → Q e) → (es : List Entry) → AllByRecursion P es → AllByRecursion Q es
 all-map f [] all = tt
 all-map f (e ∷ es) all = (f e all.0, all-map f es all.1)
 

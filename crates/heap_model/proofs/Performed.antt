@@ -50,7 +50,7 @@ same_Found r s e = ap (reach_of r) e
 not_report : (f : ReportKind) → is_report (Report f) ≡ false → ⊥
 not_report f e = cc
 
-placed : (h : Words) (p : ℕ) (reach : Reach) (kind : AccessKind) (act : Act ℕ) → is_report (access (live_in h) p reach kind act) ≡ false
+pub placed : (h : Words) (p : ℕ) (reach : Reach) (kind : AccessKind) (act : Act ℕ) → is_report (access (live_in h) p reach kind act) ≡ false
     → IsInside h (record { word = p; reach = reach; kind = kind })
 unfolding access access_outcome
 placed h p reach kind act fine = go (version_of p == 0) (live_in h reach.lo p) refl fine
@@ -77,7 +77,7 @@ placed h p reach kind act fine = go (version_of p == 0) (live_in h reach.lo p) r
 -- ---- an entry of a legal history
 
 module _ (preferred : Preference) where
-  met : (h : Words) (before later : List Entry) (e : Entry) → IsLegalFrom preferred h (before ++ e ∷ later) → Meets preferred (replay h before) e
+  pub met : (h : Words) (before later : List Entry) (e : Entry) → IsLegalFrom preferred h (before ++ e ∷ later) → Meets preferred (replay h before) e
   met h [] later e legal = legal.0
   met h (f ∷ before) later e legal = met (after h f) before later e legal.1
 

@@ -70,7 +70,7 @@ names-count q h =
     ∙ length-append (filter q (map (λ o. o.name) h.live)) (filter q h.dead)
     ∙ ap (λ k. k + length (filter q h.dead)) (length-filter_map (λ o. o.name) q h.live)
 
-one_if-le : (b : Bool) → one_if b ≤ 1
+pub one_if-le : (b : Bool) → one_if b ≤ 1
 one_if-le true = omega arith
 one_if-le false = omega arith
 
@@ -108,16 +108,16 @@ length-cons_if : {X : Type 0} (b : Bool) (x : X) (xs : List X) → length (cond 
 length-cons_if true x xs = omega arith
 length-cons_if false x xs = omega arith
 
-made-replay : (w c : ℕ) (h : Words) (es : List Entry) → made_count (is_by w c) (replay h es) ≤ made_count (is_by w c) h + length (filter (is_call w c) es)
+pub made-replay : (w c : ℕ) (h : Words) (es : List Entry) → made_count (is_by w c) (replay h es) ≤ made_count (is_by w c) h + length (filter (is_call w c) es)
 made-replay w c h [] = omega arith
 made-replay w c h (e ∷ es) =
     omega (arith, made-replay w c (after h e) es, made-next w c e.worker e.number h e.call e.reply, length-cons_if (is_call w c e) e (filter (is_call w c) es))
 
-counted : (c n : ℕ) (es : List Entry) → CountsFrom n es → length (filter (λ e. e.number == c) es) ≤ one_if (nat_le n c)
+pub counted : (c n : ℕ) (es : List Entry) → CountsFrom n es → length (filter (λ e. e.number == c) es) ≤ one_if (nat_le n c)
 counted c n [] k = omega arith
 counted c n (e ∷ es) k = grind (arith, nat_tests, k.0, counted c (suc n) es k.1)
 
-calls-of : (w c : ℕ) (es : List Entry) → length (filter (is_call w c) es) ≡ length (filter (λ e. e.number == c) (own es w))
+pub calls-of : (w c : ℕ) (es : List Entry) → length (filter (is_call w c) es) ≡ length (filter (λ e. e.number == c) (own es w))
 calls-of w c [] = refl
 calls-of w c (e ∷ es) = grind (arith, calls-of w c es)
 

@@ -8,6 +8,11 @@ pub mod Forms
 pub mod Legal
 pub mod Performed
 pub mod Checks
+pub mod Pieces
+pub mod Replies
+pub mod Makers
+pub mod Restricted
 pub mod Order
+pub mod Extension
 pub mod State
 pub mod History

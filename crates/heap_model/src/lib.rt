@@ -5,6 +5,7 @@ mod access;
 mod calls;
 mod forms;
 mod history;
+mod history_laws;
 mod laws;
 mod regions;
 mod sent;
@@ -14,6 +15,7 @@ pub use access::{low_bytes, sign_extension, width_of};
 pub use calls::{AccessKind, Call, Entry, Reach, Reply, ReportKind, Value};
 pub use forms::{fits, region_for, suits};
 pub use history::History;
+pub use history_laws::{law_extension, law_makers, law_pieces, law_replies, law_restrictions};
 pub use laws::{
     law_accesses_inside, law_apart, law_checks, law_found_preferred, law_merge, law_regions,
     law_slots, law_words,

@@ -276,22 +276,49 @@ static NUMBERS: [(Call, Reply); 16] = [
     (check!(B + 2, INT), Reply::Report(ReportKind::WrongType)),
 ];
 
+/// How a new heap answered calls: the index of the first whose reply is another, and its objects behind them.
+#[derive(Clone, Copy, PartialEq, Debug)]
+struct Outcome {
+    other: Option<usize>,
+    live: u32,
+    made: u32,
+}
+
+/// Each reply is the one that is wanted.
+fn as_wanted(live: u32, made: u32) -> Outcome {
+    Outcome {
+        other: None,
+        live,
+        made,
+    }
+}
+
+/// Asks a new heap of region 1 calls in order.
+fn asked(alloc: Global, steps: &[(Call, Reply)]) -> Result<Outcome, AllocError> {
+    let mut region = Region::new(alloc, 1)?;
+    let other = region.first_other(steps)?;
+    Ok(Outcome {
+        other,
+        live: region.heap.live(),
+        made: region.heap.made(),
+    })
+}
+
 #[test]
 fn calls_are_answered_in_order(rt: HostRuntime) -> Result<(), Fail> {
-    let mut used = Region::new(rt.alloc(), 1)?;
-    assert_eq!(rt; used.first_other(&USE_AFTER_FREE)?, None);
-    assert_eq!(rt; used.heap.live(), 1);
-    assert_eq!(rt; used.heap.made(), 3);
-    let mut tested = Region::new(rt.alloc(), 1)?;
-    assert_eq!(rt; tested.first_other(&TESTS_IN_ORDER)?, None);
-    let mut kept = Region::new(rt.alloc(), 1)?;
-    assert_eq!(rt; kept.first_other(&NUMBERS)?, None);
+    assert_eq!(rt; asked(rt.alloc(), &USE_AFTER_FREE)?, as_wanted(1, 3));
+    assert_eq!(rt; asked(rt.alloc(), &TESTS_IN_ORDER)?, as_wanted(0, 1));
+    assert_eq!(rt; asked(rt.alloc(), &NUMBERS)?, as_wanted(1, 2));
+    Ok(())
+}
+
+#[test]
+fn an_object_of_24_bytes_lies_in_region_2(rt: HostRuntime) -> Result<(), Fail> {
     let mut second = Region::new(rt.alloc(), 2)?;
-    assert_eq!(rt;
-        second.ask(&alloc!(LONG, 24, false))?,
-        Some(Reply::Placed(1_108_101_562_400))
-    );
-    assert_eq!(rt; second.heap.region(), 2);
+    let reply = second.ask(&alloc!(LONG, 24, false))?;
+    let region = second.heap.region();
+    assert_eq!(rt; reply, Some(Reply::Placed(1_108_101_562_400)));
+    assert_eq!(rt; region, 2);
     Ok(())
 }
 
@@ -315,14 +342,25 @@ fn count_placements(region: &mut Region) -> Result<u64, AllocError> {
     Ok(70_000)
 }
 
+/// How a heap of region 1 answers calls once it is full, and how many objects made it so.
+fn asked_when_full(alloc: Global, steps: &[(Call, Reply)]) -> Result<(u64, Outcome), AllocError> {
+    let mut region = Region::new(alloc, 1)?;
+    let placed = count_placements(&mut region)?;
+    let other = region.first_other(steps)?;
+    let outcome = Outcome {
+        other,
+        live: region.heap.live(),
+        made: region.heap.made(),
+    };
+    Ok((placed, outcome))
+}
+
 #[test]
 fn a_region_is_full_with_all_its_slots(rt: HostRuntime) -> Result<(), Fail> {
-    let mut region = Region::new(rt.alloc(), 1)?;
-    assert_eq!(rt; count_placements(&mut region)?, 65_536);
-    assert_eq!(rt; region.heap.live(), 65_536);
+    let (placed, outcome) = asked_when_full(rt.alloc(), &GIVEN_BACK)?;
+    assert_eq!(rt; placed, 65_536);
     // the slot that was given back last is the next
-    assert_eq!(rt; region.first_other(&GIVEN_BACK)?, None);
-    assert_eq!(rt; region.heap.made(), 65_538);
+    assert_eq!(rt; outcome, as_wanted(65_536, 65_538));
     Ok(())
 }
 

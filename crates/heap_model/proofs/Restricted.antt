@@ -1,0 +1,65 @@
+-- A history is legal exactly where its entries are of the regions and its restriction to each is legal.
+use Rattle.std.proofs.Common.{◌≡◌, ℕ, ◌+◌, ◌<◌, Bool, true, false, cond, List, [], ◌∷◌, length, Option, Some, None, unwrap_or, refl, subst, arith}
+use Rattle.std.specs.Prelude.{nat_lt, nat_le}
+use Rattle.std.specs.List.{position_or_len}
+use Rattle.std.proofs.lemmas.Bool.{ltb-true}
+use Rattle.std.proofs.lemmas.Option.{same_Some, none-some}
+use Rattle.heap_model.specs.Regions.{sizes, class_of, region_of, address_of, IsRegion}
+use Rattle.heap_model.specs.Heap.{empty}
+use Rattle.heap_model.specs.Answers.{Words}
+use Rattle.heap_model.specs.Preference.{Preference}
+use Rattle.heap_model.specs.Forms.{region_or_one, region_for}
+use Rattle.heap_model.specs.Legal.{IsLegalFrom, InRegions, after}
+use Rattle.heap_model.specs.Restricted.{RestrictionsLaw}
+use Rattle.heap_model.specs.declared.calls.Call.{Call}
+use Rattle.heap_model.specs.declared.calls.Call.TheVariants.{Alloc, Free, Check, Load, Store, Add}
+use Rattle.heap_model.specs.declared.calls.Entry.{Entry}
+use Rattle.heap_model.proofs.Apart.{is_region}
+use Rattle.heap_model.proofs.Classes.{count_of_sizes}
+use Rattle.heap_model.proofs.RegionsLaw.{restricted, joined}
+
+-- ---- a call is made in one of the regions
+
+class-region : (size r : ℕ) → class_of size ≡ Some r → IsRegion r
+unfolding class_of
+class-region size r e = go (nat_lt index (length sizes)) refl e
+  where
+    index : ℕ
+    index = position_or_len (λ s. nat_le (size + 17) s) sizes
+
+    go : (b : Bool) → nat_lt index (length sizes) ≡ b → cond b (Some (index + 1)) None ≡ Some r → IsRegion r
+    go true below same =
+        let is : index + 1 ≡ r = same_Some _ _ same in
+        let less : index < length sizes = ltb-true _ _ below in
+        (omega (arith, is), omega (arith, is, less, count_of_sizes))
+    go false below same = absurd (none-some r same)
+
+address-region : (address r : ℕ) → region_or_one address ≡ Some r → IsRegion r
+address-region address r e = go (region_of address) refl e
+  where
+    go : (o : Option ℕ) → region_of address ≡ o → Some (unwrap_or o 1) ≡ Some r → IsRegion r
+    go None found same = let one : 1 ≡ r = same_Some _ _ same in (omega (arith, one), omega (arith, one))
+    go (Some q) found same = subst IsRegion (same_Some _ _ same) (is_region address q found)
+
+pub call-region : (call : Call) (r : ℕ) → region_for call ≡ Some r → IsRegion r
+unfolding region_for
+call-region (Alloc elem size fixed) r e = class-region size r e
+call-region (Free p fixed) r e = address-region (address_of p) r e
+call-region (Check p want) r e = address-region (address_of p) r e
+call-region (Load p reach kind) r e = address-region reach.lo r e
+call-region (Store p reach kind v) r e = address-region reach.lo r e
+call-region (Add p reach kind n) r e = address-region reach.lo r e
+
+-- ---- the law
+
+pub legal-regions : (preferred : Preference) (h : Words) (es : List Entry) → IsLegalFrom preferred h es → InRegions es
+legal-regions preferred h [] legal = tt
+legal-regions preferred h (e ∷ es) legal =
+    let r = call-region e.call e.region legal.0.region_is in
+    (r.0, r.1, legal-regions preferred (after h e) es legal.1)
+
+pub restrictions_law : RestrictionsLaw
+restrictions_law preferred history = (
+  λ legal. (legal-regions preferred empty history legal, λ r is. restricted preferred r empty history legal),
+  λ parts. joined preferred empty history parts.0 (λ r low high. parts.1 r (low, high)),
+)
