@@ -3,22 +3,24 @@
 
 use case_list::append_lines;
 use effsan_top::Record;
-use heap_model::{
-    AccessKind, Call, Entry, History, Reach, Reply, Value, address_of, region_of, slot_number,
-    version_of,
-};
+use heap_model::{AccessKind, Call, Entry, History, Reach, Reply, Value};
+use lowfat_regions::{region_of, slot_number};
+use slot_headers::PtrWord;
 use std::alloc::{AllocError, Global};
 
 /// The entry that placed the object which a pointer names by an address: the one of its version in the address's slot.
 fn placing_entry(history: &History, anchor: u64, pointer: u64) -> Option<(Entry, u64)> {
+    let (_, version) = PtrWord::parts(pointer);
     for at in 0..history.len() {
         let entry = history.get(at);
-        if let Reply::Placed(word) = entry.reply
-            && version_of(word) == version_of(pointer)
-            && region_of(address_of(word)) == region_of(anchor)
-            && slot_number(address_of(word)) == slot_number(anchor)
-        {
-            return Some((entry, address_of(word)));
+        if let Reply::Placed(word) = entry.reply {
+            let (first, placed) = PtrWord::parts(word);
+            if placed == version
+                && region_of(first) == region_of(anchor)
+                && slot_number(first) == slot_number(anchor)
+            {
+                return Some((entry, first));
+            }
         }
     }
     None
@@ -48,13 +50,14 @@ fn pointer_name(
     anchor: u64,
     pointer: u64,
 ) -> Result<String, AllocError> {
-    if version_of(pointer) == 0 {
+    let (address, version) = PtrWord::parts(pointer);
+    if version == 0 {
         return String::from_str(alloc, "null");
     }
     let Some((entry, first)) = placing_entry(history, anchor, pointer) else {
         return String::from_str(alloc, "none");
     };
-    let offset = address_of(pointer).wrapping_sub(first);
+    let offset = address.wrapping_sub(first);
     let sign = if offset >> 63 == 0 { "+" } else { "" };
     let offset = signed_text(alloc, offset)?;
     format!(in alloc; "{}#{}{sign}{offset}", entry.worker, entry.number)
@@ -105,7 +108,8 @@ fn value_name(
     value: Value,
 ) -> Result<String, AllocError> {
     if value.pointer || kind == AccessKind::Ptr {
-        pointer_name(alloc, history, address_of(value.bits), value.bits)
+        let (anchor, _) = PtrWord::parts(value.bits);
+        pointer_name(alloc, history, anchor, value.bits)
     } else if is_signed(kind) {
         signed_text(alloc, value.bits)
     } else {
@@ -124,7 +128,10 @@ fn plain_value(bits: u64) -> Value {
 fn operand(call: Call) -> (u64, u64, AccessKind) {
     match call {
         Call::Alloc { .. } => (0, 0, AccessKind::Word),
-        Call::Free { p, .. } | Call::Check { p, .. } => (p, address_of(p), AccessKind::Word),
+        Call::Free { p, .. } | Call::Check { p, .. } => {
+            let (anchor, _) = PtrWord::parts(p);
+            (p, anchor, AccessKind::Word)
+        }
         Call::Load { p, reach, kind }
         | Call::Store { p, reach, kind, .. }
         | Call::Add { p, reach, kind, .. } => (p, reach.lo, kind),

@@ -6,7 +6,8 @@ use Rattle.std.proofs.lemmas.Option.{same_Some, none-some}
 use Rattle.std.proofs.lemmas.List.{length-replicate}
 use Rattle.std.proofs.lemmas.List.Sums.{passes_at_first}
 use Rattle.std.specs.List.{position_or_len, AllByRecursion}
-use Rattle.heap_model.specs.Regions.{Slot, is_slot, slot_of, slot_in, region_of, size_of, sizes, class_of, slots, slot_address, address_of, version_of}
+use Rattle.lowfat_regions.specs.Regions.{header_bytes, Slot, IsSlot, is_slot, slot_of, slot_in, region_of, size_of, sizes, class_of, slots, slot_address}
+use Rattle.slot_headers.specs.Words.{address_of, version_of}
 use Rattle.heap_model.specs.Cells.{Cell, zeros, Act, Loads, Stores, Adds, Number, Pointer, Datum, put, without_pointer, cells_after_store, cells_after_add, access_cells, number_in, width, cells_at}
 use Rattle.heap_model.specs.Heap.{Object, empty, live_count, dead_count, made_count, with_new, with_dead, with_cells, with_cells_if}
 use Rattle.heap_model.specs.Answers.{Name, Words, is_in, is_at, names, slot_at, offset, datum, new_object, next}
@@ -14,7 +15,7 @@ use Rattle.heap_model.specs.Preference.{Preference}
 use Rattle.heap_model.specs.Forms.{region_for}
 use Rattle.heap_model.specs.Legal.{MayPlace, AllocAnswers, Answers, after, IsLegalFrom, IsLegal, replay, covers, IsApart}
 use Rattle.heap_model.proofs.Counts.{live_count-made, live_count-died, made_count-died, live_count-cells}
-use Rattle.heap_model.proofs.Slots.{slot_of-at}
+use Rattle.lowfat_regions.proofs.Addresses.{slot_of-at}
 use Rattle.heap_model.specs.declared.calls.AccessKind.{AccessKind}
 use Rattle.heap_model.specs.declared.calls.Call.{Call}
 use Rattle.heap_model.specs.declared.calls.Call.TheVariants.{Alloc, Free, Store, Add}
@@ -49,11 +50,6 @@ length-access_cells k kind (Adds n) cells = length-cells_after_add kind k n (num
 
 -- ---- slots that exist
 
-pub record IsSlot (s : Slot) : Type 0 where
-  pub above : 1 ≤ s.region
-  pub below : s.region ≤ 27
-  pub number : s.number < slots s.region
-
 pub is_region : (a r : ℕ) → region_of a ≡ Some r → (1 ≤ r) × (r ≤ 27)
 unfolding region_of
 is_region a r e = grind arith
@@ -68,20 +64,20 @@ unfolding slot_of
 IsSlot-of a s e =
     let h = slot_in-is (region_of a) a s e in
     let r = is_region a s.region h.0 in
-    record { above = r.0; below = r.1; number = h.1 }
+    record { from = r.0; to = r.1; number = h.1 }
 
 -- an object of a class has room for its header and a byte past it
-pub class-room : (n r : ℕ) → class_of n ≡ Some r → n + 17 ≤ size_of r
+pub class-room : (n r : ℕ) → class_of n ≡ Some r → n + header_bytes + 1 ≤ size_of r
 unfolding class_of size_of
 class-room n r e = go (nat_lt place (length sizes)) refl e
   where
     fits : ℕ → Bool
-    fits z = nat_le (n + 17) z
+    fits z = nat_le (n + header_bytes + 1) z
 
     place : ℕ
     place = position_or_len fits sizes
 
-    go : (b : Bool) → nat_lt place (length sizes) ≡ b → cond b (Some (place + 1)) None ≡ Some r → n + 17 ≤ get_or sizes (r - 1) 0
+    go : (b : Bool) → nat_lt place (length sizes) ≡ b → cond b (Some (place + 1)) None ≡ Some r → n + header_bytes + 1 ≤ get_or sizes (r - 1) 0
     go true below same =
         let at : place + 1 ≡ r = same_Some _ _ same in
         let here : r - 1 ≡ place = omega arith in
@@ -93,7 +89,7 @@ class-room n r e = go (nat_lt place (length sizes)) refl e
 -- the object is in a slot that has room for it
 pub record HasRoom (o : Object Name ℕ) : Type 0 where
   pub slot : IsSlot o.name.slot
-  pub room : length o.body.cells + 17 ≤ size_of o.name.slot.region
+  pub room : length o.body.cells + header_bytes + 1 ≤ size_of o.name.slot.region
 
 pub record IsSound (h : Words) : Type 0 where
   pub one_live : (s : Slot) → live_count (is_in s) h ≤ 1
@@ -209,8 +205,8 @@ sound-placed h r worker number elem size word fixed home m s =
     s
     (record {
       slot = subst IsSlot (sym e) (IsSlot-of (address_of word) m.slot m.slot_is);
-      room = subst (λ t. length (zeros {P = ℕ} size) + 17 ≤ size_of t.region) (sym e)
-          (subst (λ q. length (zeros {P = ℕ} size) + 17 ≤ size_of q) (sym m.of_region)
+      room = subst (λ t. length (zeros {P = ℕ} size) + header_bytes + 1 ≤ size_of t.region) (sym e)
+          (subst (λ q. length (zeros {P = ℕ} size) + header_bytes + 1 ≤ size_of q) (sym m.of_region)
           (simp length-replicate (class-room size r home)));
     })
 
@@ -237,7 +233,7 @@ covers-in a o here e =
     let k = a - slot_address o.name.slot in
     let inside : k < size_of o.name.slot.region = omega (arith, here.room) in
     let is : slot_address o.name.slot + k ≡ a = omega arith in
-    subst (λ x. slot_of x ≡ Some o.name.slot) is (slot_of-at o.name.slot k here.slot.above here.slot.below here.slot.number inside)
+    subst (λ x. slot_of x ≡ Some o.name.slot) is (slot_of-at o.name.slot k here.slot.from here.slot.to here.slot.number inside)
 
 pub is_slot-refl : (s : Slot) → is_slot s s ≡ true
 is_slot-refl s = and_from _ _ (eq-eqb s.region s.region refl) (eq-eqb s.number s.number refl)

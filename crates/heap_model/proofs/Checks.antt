@@ -2,7 +2,7 @@
 use Rattle.std.proofs.Common.{◌≡◌, ◌≢◌, ℕ, Bool, true, false, cond, ◌==◌, List, [], ◌∷◌, ◌++◌, length, Option, Some, None, refl, sym, subst}
 use Rattle.std.proofs.lemmas.Bool.{eqb-true, eqb-false}
 use Rattle.type_layout.specs.declared.preference.Bounds as bounds
-use Rattle.heap_model.specs.Regions.{address_of, version_of}
+use Rattle.slot_headers.specs.Words.{address_of, version_of}
 use Rattle.heap_model.specs.Heap.{Body, empty}
 use Rattle.heap_model.specs.Preference.{Preference}
 use Rattle.heap_model.specs.Answers.{Words, answer, answer_by, live_in, offset, check_reply, found_reply, first_byte}

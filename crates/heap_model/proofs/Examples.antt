@@ -1,6 +1,8 @@
 -- What the definitions say of a few calls.
 use Rattle.std.proofs.Common.{◌≡◌, ℕ, ◌+◌, ◌-◌, ◌^◌, pos, negsuc, true, false, List, [], ◌∷◌, map, Some, None, refl}
-use Rattle.heap_model.specs.Regions.{slot_of, slot_in, region_of, size_of, sizes, first_multiple, slots, slot_address, slot_base, address_of, version_of, offset_in, class_of}
+use Rattle.lowfat_regions.specs.Regions.{slot_of, slot_in, region_of, size_of, sizes, first_multiple, slots, slot_address, slot_base, class_of}
+use Rattle.slot_headers.specs.Words.{address_of, version_of}
+use Rattle.heap_model.specs.Objects.{offset_in}
 use Rattle.heap_model.specs.Reaches.{narrow, inside, may_escape, same_slot, slot_bounds, moved}
 use Rattle.heap_model.specs.Cells.{Number, Byte, Gave, Refused, Loads, parts, zeros, access_outcome, access_report, load_outcome, cells_after_store, without_pointer, put, sign_extension}
 use Rattle.heap_model.specs.Heap.{is_full}

@@ -4,7 +4,7 @@ use Rattle.std.specs.Prelude.{nat_le, nat_lt}
 use Rattle.std.proofs.lemmas.Bool.{cases_eq, eqb-true, eq-eqb, leb-true, leb-false, ltb-true, ltb-false}
 use Rattle.std.proofs.lemmas.List.Sorted.{IsPermutation-refl, IsPermutation-sym, IsPermutation-trans, IsPermutation-cons, IsPermutation-middle}
 use Rattle.std.specs.List.{AllByRecursion}
-use Rattle.heap_model.specs.Regions.{IsRegion}
+use Rattle.lowfat_regions.specs.Regions.{IsRegion}
 use Rattle.heap_model.specs.Heap.{empty}
 use Rattle.heap_model.specs.Preference.{Preference}
 use Rattle.heap_model.specs.Legal.{of_region, InRegions}

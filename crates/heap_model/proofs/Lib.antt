@@ -1,6 +1,4 @@
 pub mod Lists
-pub mod Slots
-pub mod Classes
 pub mod Parts
 pub mod Regional
 pub mod RegionsLaw

@@ -2,12 +2,12 @@
 use Rattle.std.proofs.Common.{◌≡◌, ℕ, ◌<◌, Bool, true, false, cond, ◌==◌, List, [], ◌∷◌, filter, refl, sym, ap, ap₂, ◌∙◌, subst, arith, ◌⊎◌, inl, inr}
 use Rattle.std.proofs.lemmas.Bool.{cases_eq, or_left, lt-ltb}
 use Rattle.std.specs.List.{AllByRecursion}
+use Rattle.heap_model.specs.Heap.{empty}
 use Rattle.heap_model.specs.Preference.{Preference}
 use Rattle.heap_model.specs.Legal.{own, of_region, IsLegal, CountsFrom, IsWellNumbered, InRegions}
 use Rattle.heap_model.specs.Order.{before, Rises, StampsRise, IsMerge, ArePasses, IsRecord}
 use Rattle.heap_model.proofs.Lists.{filter-comm}
-use Rattle.heap_model.proofs.RegionsLaw as regions
-use Rattle.heap_model.proofs.RegionsLaw.{of_region-here, of_region-there}
+use Rattle.heap_model.proofs.RegionsLaw.{of_region-here, of_region-there, joined}
 use Rattle.heap_model.specs.declared.calls.Entry.{Entry}
 
 -- ---- lists
@@ -106,7 +106,7 @@ law preferred parts passes history k m in' =
     let o = own-is preferred parts passes history k m in
     let n : IsWellNumbered history = λ w. subst (CountsFrom 0) (sym (o w)) (k.numbers w) in
     record {
-      legal = (regions.law preferred history n in').1 (λ r lo hi. subst (IsLegal preferred) (sym (m.regions r)) (k.legal r));
+      legal = joined preferred empty history in' (λ r lo hi. subst (IsLegal preferred) (sym (m.regions r)) (k.legal r));
       numbered = n;
       stamped = record {
         workers = λ w. subst StampsRise (sym (o w)) (k.pass_stamps w);

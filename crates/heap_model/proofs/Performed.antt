@@ -4,7 +4,7 @@ use Rattle.std.specs.Prelude.{nat_le, IsFalse}
 use Rattle.std.proofs.lemmas.Bool.{leb-true, eqb-true, and_parts}
 use Rattle.std.proofs.lemmas.Option.{same_Some, none-some}
 use Rattle.type_layout.specs.declared.preference.Bounds as bounds
-use Rattle.heap_model.specs.Regions.{address_of, version_of}
+use Rattle.slot_headers.specs.Words.{address_of, version_of}
 use Rattle.heap_model.specs.Cells.{Act, Loads, Stores, Adds, width, access_report, report_or, outcome_inside, access_outcome, cells_at}
 use Rattle.heap_model.specs.Heap.{Body, access_at, empty}
 use Rattle.heap_model.specs.Preference.{Preference}

@@ -5,7 +5,8 @@ use Rattle.std.proofs.lemmas.Bool.{ltb-true, ltb-false}
 use Rattle.std.proofs.lemmas.Option.{same_Some, none-some}
 use Rattle.std.proofs.lemmas.List.{length-map}
 use Rattle.std.specs.List.{AllByRecursion}
-use Rattle.heap_model.specs.Regions.{Slot, slot_of, address_of, version_of}
+use Rattle.lowfat_regions.specs.Regions.{Slot, slot_of}
+use Rattle.slot_headers.specs.Words.{address_of, version_of}
 use Rattle.heap_model.specs.Cells.{Cell, Byte, Part, Number, Pointer, Act, Stores, Adds, width, bytes, zeros, number_in, parts, cells_at, put, without_mark, without_pointer, cells_after_store, cells_after_add, access_cells}
 use Rattle.heap_model.specs.Heap.{Body, Object, empty, live_body, live_count, with_cells_if}
 use Rattle.heap_model.specs.Answers.{Name, Words, is_at, names, offset, datum, access, answer_by, live_in, new_object, after_access, next}

@@ -2,7 +2,8 @@
 use Rattle.std.proofs.Common.{◌≡◌, ℕ, ◌+◌, true, Option, Some, None, refl, ap, sym, ◌∙◌, arith, unwrap_or, ◌↔◌}
 use Rattle.std.proofs.lemmas.Bool.{eqb-true, eq-eqb, ne_eqb, and_parts}
 use Rattle.std.proofs.lemmas.Option.{same_Some, none-some}
-use Rattle.heap_model.specs.Regions.{Slot, slot_of, slot_in, region_of, address_of, version_of}
+use Rattle.lowfat_regions.specs.Regions.{Slot, slot_of, slot_in, region_of}
+use Rattle.slot_headers.specs.Words.{address_of, version_of}
 use Rattle.heap_model.specs.Cells.{Act, Loads, Stores, Adds}
 use Rattle.heap_model.specs.Heap.{part, live_body, has_dead, is_full, is_of}
 use Rattle.heap_model.specs.Answers.{Name, region, Words, is_in, is_at, names, slot_at, datum, reply, access, answer_by, Live, Dead, live_in, dead_in, answer, new_object, next}

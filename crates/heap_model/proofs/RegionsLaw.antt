@@ -1,11 +1,10 @@
 -- A history is legal exactly where its restriction to each region is.
-use Rattle.std.proofs.Common.{◌≡◌, ℕ, ◌≤◌, cond, List, [], ◌∷◌, refl, ap, sym, subst, eq-eqb, ne_eqb, ◌↔◌}
+use Rattle.std.proofs.Common.{◌≡◌, ℕ, ◌≤◌, cond, List, [], ◌∷◌, refl, ap, sym, subst, eq-eqb, ne_eqb}
 use Rattle.std.proofs.lemmas.Bool.{cases_eq}
 use Rattle.std.proofs.Common.{◌⊎◌, inl, inr}
-use Rattle.heap_model.specs.Heap.{empty}
 use Rattle.heap_model.specs.Answers.{Words}
 use Rattle.heap_model.specs.Preference.{Preference}
-use Rattle.heap_model.specs.Legal.{Meets, after, IsLegalFrom, IsLegal, of_region, InRegions, IsWellNumbered}
+use Rattle.heap_model.specs.Legal.{Meets, after, IsLegalFrom, of_region, InRegions}
 use Rattle.heap_model.proofs.Regional.{within, Answers-within, next-within, next-elsewhere}
 use Rattle.heap_model.specs.declared.calls.Entry.{Entry}
 
@@ -70,7 +69,3 @@ module _ (preferred : Preference) where
   joined h (e ∷ es) in' all =
       let m = Meets-from h e (here h e es (all e.region in'.0 in'.1)).0 in
       (m, joined (after h e) es in'.2 (λ r lo hi. taken_away r h e es m (all r lo hi)))
-
-  pub law : (history : List Entry) → IsWellNumbered history → InRegions history
-      → IsLegal preferred history ↔ ((r : ℕ) → 1 ≤ r → r ≤ 27 → IsLegal preferred (of_region r history))
-  law history numbered in' = (λ l r lo hi. restricted r empty history l, λ all. joined empty history in' all)

@@ -6,7 +6,7 @@ use Rattle.std.proofs.lemmas.Option.{same_Some, none-some}
 use Rattle.std.specs.List.{AllByRecursion}
 use Rattle.std.specs.Bool.{beq}
 use Rattle.type_layout.specs.declared.preference.Bounds as bounds
-use Rattle.heap_model.specs.Regions.{address_of, version_of}
+use Rattle.slot_headers.specs.Words.{address_of, version_of}
 use Rattle.heap_model.specs.Cells.{Cell, Byte, Part, Act, Loads, Stores, Adds, Outcome, width, number_in, pointer_in, cells_at, sign_extension, load_outcome, access_report, report_or, outcome_inside, access_outcome}
 use Rattle.heap_model.specs.Heap.{Body, empty, access_at, free_outcome}
 use Rattle.heap_model.specs.Answers.{Words, names, access, answer, answer_by, live_in, dead_in, reply, offset, is_inside, datum, check_reply, found_reply, first_byte}

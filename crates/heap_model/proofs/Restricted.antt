@@ -1,10 +1,9 @@
 -- A history is legal exactly where its entries are of the regions and its restriction to each is legal.
 use Rattle.std.proofs.Common.{◌≡◌, ℕ, ◌+◌, ◌<◌, Bool, true, false, cond, List, [], ◌∷◌, length, Option, Some, None, unwrap_or, refl, subst, arith}
-use Rattle.std.specs.Prelude.{nat_lt, nat_le}
-use Rattle.std.specs.List.{position_or_len}
 use Rattle.std.proofs.lemmas.Bool.{ltb-true}
 use Rattle.std.proofs.lemmas.Option.{same_Some, none-some}
-use Rattle.heap_model.specs.Regions.{sizes, class_of, region_of, address_of, IsRegion}
+use Rattle.lowfat_regions.specs.Regions.{sizes, class_of, region_of, IsRegion}
+use Rattle.slot_headers.specs.Words.{address_of}
 use Rattle.heap_model.specs.Heap.{empty}
 use Rattle.heap_model.specs.Answers.{Words}
 use Rattle.heap_model.specs.Preference.{Preference}
@@ -15,24 +14,20 @@ use Rattle.heap_model.specs.declared.calls.Call.{Call}
 use Rattle.heap_model.specs.declared.calls.Call.TheVariants.{Alloc, Free, Check, Load, Store, Add}
 use Rattle.heap_model.specs.declared.calls.Entry.{Entry}
 use Rattle.heap_model.proofs.Apart.{is_region}
-use Rattle.heap_model.proofs.Classes.{count_of_sizes}
 use Rattle.heap_model.proofs.RegionsLaw.{restricted, joined}
 
 -- ---- a call is made in one of the regions
 
-class-region : (size r : ℕ) → class_of size ≡ Some r → IsRegion r
-unfolding class_of
-class-region size r e = go (nat_lt index (length sizes)) refl e
-  where
-    index : ℕ
-    index = position_or_len (λ s. nat_le (size + 17) s) sizes
+chosen : (b : Bool) (x r : ℕ) → cond b (Some x) None ≡ Some r → (b ≡ true) × (x ≡ r)
+chosen true x r e = (refl, same_Some _ _ e)
+chosen false x r e = absurd (none-some _ e)
 
-    go : (b : Bool) → nat_lt index (length sizes) ≡ b → cond b (Some (index + 1)) None ≡ Some r → IsRegion r
-    go true below same =
-        let is : index + 1 ≡ r = same_Some _ _ same in
-        let less : index < length sizes = ltb-true _ _ below in
-        (omega (arith, is), omega (arith, is, less, count_of_sizes))
-    go false below same = absurd (none-some r same)
+class-region : (size r : ℕ) → class_of size ≡ Some r → IsRegion r
+unfolding class_of sizes
+class-region size r e =
+    let is = chosen _ _ r e in
+    let below = ltb-true _ _ is.0 in
+    (omega (arith, is.1), omega (arith, is.1, below))
 
 address-region : (address r : ℕ) → region_or_one address ≡ Some r → IsRegion r
 address-region address r e = go (region_of address) refl e

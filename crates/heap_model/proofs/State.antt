@@ -2,7 +2,8 @@
 use Rattle.std.proofs.Common.{◌≡◌, ℕ, ◌+◌, ◌<◌, ◌≤◌, Bool, true, false, not, cond, ◌&&◌, ◌||◌, ◌==◌, List, [], ◌∷◌, ◌++◌, map, length, filter, find, Option, Some, None, option_map, is_some, refl, ap, sym, ◌∙◌, subst, arith}
 use Rattle.std.specs.List.{list_any}
 use Rattle.std.specs.Prelude.{nat_lt}
-use Rattle.heap_model.specs.Regions.{Slot, is_slot, slot_of, version_of}
+use Rattle.lowfat_regions.specs.Regions.{Slot, is_slot, slot_of}
+use Rattle.slot_headers.specs.Words.{version_of}
 use Rattle.heap_model.specs.Cells.{Cell}
 use Rattle.heap_model.specs.Heap.{Body, Object, live_body, has_dead, live_count, made_count, dead_count, is_of, with_new, with_dead, with_cells, with_cells_if}
 use Rattle.heap_model.specs.Answers.{Name, region, Words, is_in, is_at, live_in, dead_in, answer, answer_by}

@@ -1,7 +1,7 @@
 -- In a heap where each version of a slot is that of at most one object, two names there with one slot and version are one.
 use Rattle.std.proofs.Common.{◌≡◌, ℕ, ◌+◌, ◌≤◌, suc, Bool, true, false, cond, List, [], ◌∷◌, ◌++◌, map, length, filter, refl, sym, ap, ◌∙◌, subst, arith, ◌⊎◌, inl, inr, length-append}
 use Rattle.std.proofs.lemmas.Bool.{and_from, eq-eqb}
-use Rattle.heap_model.specs.Regions.{is_slot}
+use Rattle.lowfat_regions.specs.Regions.{is_slot}
 use Rattle.heap_model.specs.Heap.{Heap, made_count}
 use Rattle.heap_model.specs.Answers.{Name, Words, is_at}
 use Rattle.heap_model.specs.Legal.{IsApart}
@@ -11,7 +11,7 @@ use Rattle.heap_model.proofs.Apart.{is_slot-refl}
 use Rattle.std.proofs.Common.{◌&&◌, ◌==◌}
 use Rattle.std.specs.Prelude.{nat_le}
 use Rattle.std.proofs.lemmas.Bool.Decides.{nat_tests}
-use Rattle.heap_model.specs.Regions.{address_of}
+use Rattle.slot_headers.specs.Words.{address_of}
 use Rattle.heap_model.specs.Cells.{access_cells, Stores, Adds}
 use Rattle.heap_model.specs.Heap.{empty}
 use Rattle.heap_model.specs.Answers.{next, names, offset, datum, new_object}

@@ -1,6 +1,8 @@
 -- What the heap of a history answers. Its pointer values are words.
 use Rattle.std.specs.Prelude.{ℕ, ◌+◌, Bool, true, false, ◌&&◌, ◌==◌, nat_le, if◌then◌else◌, length, Option, Some, None, unwrap_or}
-use Rattle.heap_model.specs.Regions.{header_bytes, Slot, is_slot, slot_of, slot_address, address_of, version_of, offset_in}
+use Rattle.lowfat_regions.specs.Regions.{header_bytes, Slot, is_slot, slot_of, slot_address}
+use Rattle.slot_headers.specs.Words.{address_of, version_of}
+use Rattle.heap_model.specs.Objects.{offset_in}
 use Rattle.heap_model.specs.Cells.{zeros, Datum, Number, Pointer, Act, Loads, Stores, Adds, Outcome, Did, Gave, Refused, width, access_cells}
 use Rattle.heap_model.specs.Heap.{Body, Object, Heap, live_body, has_dead, free_outcome, access_at, with_new, with_dead, with_cells}
 use Rattle.heap_model.specs.Preference.{Preference}

@@ -1,6 +1,6 @@
 -- What a check is answered, whole: each of its four answers with its cause.
 use Rattle.std.specs.Prelude.{◌≡◌, ◌≢◌, ℕ, List, ◌∷◌, ◌++◌, length, Some, None}
-use Rattle.heap_model.specs.Regions.{address_of, version_of}
+use Rattle.slot_headers.specs.Words.{address_of, version_of}
 use Rattle.heap_model.specs.Heap.{Body, empty}
 use Rattle.heap_model.specs.Preference.{Preference}
 use Rattle.heap_model.specs.Answers.{Words, live_in, offset}

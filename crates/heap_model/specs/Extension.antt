@@ -1,6 +1,6 @@
 -- The history that regions' histories and callers' orders have in common, ordered by stamps (after Lamport's clocks).
 use Rattle.std.specs.Prelude.{ℕ, zero, suc, ◌≡◌, List, [], ◌++◌, IsPermutation}
-use Rattle.heap_model.specs.Regions.{last_region}
+use Rattle.lowfat_regions.specs.Regions.{last_region}
 use Rattle.heap_model.specs.Preference.{Preference}
 use Rattle.heap_model.specs.Order.{Rises, IsMerge, ArePasses, IsRecord}
 use Rattle.heap_model.specs.declared.calls.Entry.{Entry}

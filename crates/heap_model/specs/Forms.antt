@@ -1,6 +1,7 @@
 -- The calls that may be made, the regions that they are made in, and the replies that may come.
 use Rattle.std.specs.Prelude.{ℕ, ◌*◌, ◌^◌, ◌%◌, Bool, true, false, not, ◌&&◌, ◌||◌, ◌==◌, nat_lt, if◌then◌else◌, Option, Some, unwrap_or}
-use Rattle.heap_model.specs.Regions.{class_of, region_of, address_of, version_of}
+use Rattle.lowfat_regions.specs.Regions.{class_of, region_of}
+use Rattle.slot_headers.specs.Words.{address_of, version_of}
 use Rattle.heap_model.specs.Cells.{width, sign_extension}
 use Rattle.heap_model.specs.declared.calls.AccessKind.{AccessKind}
 use Rattle.heap_model.specs.declared.calls.AccessKind.TheVariants.{Ptr, Word}

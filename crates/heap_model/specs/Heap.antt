@@ -5,7 +5,8 @@ use Rattle.std.specs.List.{list_any}
 use Rattle.heap_model.specs.Cells.{Cell, Act, Outcome, Did, Refused, access_outcome}
 use Rattle.heap_model.specs.declared.calls.AccessKind.{AccessKind}
 use Rattle.heap_model.specs.declared.calls.ReportKind.TheVariants.{Free, BadFree, DoubleFree}
-use Rattle.heap_model.specs.Regions.{max_objects, slots}
+use Rattle.lowfat_regions.specs.Regions.{slots}
+use Rattle.heap_model.specs.Objects.{max_objects}
 
 -- what a live object is, but for its name. Its size is the number of its cells
 pub record Body (P : Type 0) : Type 0 where

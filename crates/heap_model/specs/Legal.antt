@@ -1,6 +1,7 @@
 -- Legal histories.
-use Rattle.std.specs.Prelude.{ℕ, ◌↔◌, ◌≡◌, ◌+◌, suc, ◌≤◌, Bool, true, false, ◌&&◌, ◌==◌, nat_le, List, [], ◌∷◌, length, filter, Some}
-use Rattle.heap_model.specs.Regions.{last_region, header_bytes, Slot, slot_of, slot_address, address_of, version_of}
+use Rattle.std.specs.Prelude.{ℕ, ◌≡◌, ◌+◌, suc, ◌≤◌, Bool, true, false, ◌&&◌, ◌==◌, nat_le, List, [], ◌∷◌, length, filter, Some}
+use Rattle.lowfat_regions.specs.Regions.{last_region, header_bytes, Slot, slot_of, slot_address}
+use Rattle.slot_headers.specs.Words.{address_of, version_of}
 use Rattle.heap_model.specs.Heap.{Object, empty, live_count, made_count, is_full}
 use Rattle.heap_model.specs.Answers.{Name, region, Words, is_in, is_at, answer, next}
 use Rattle.heap_model.specs.Preference.{Preference}
@@ -72,12 +73,6 @@ IsWellNumbered history = (w : ℕ) → CountsFrom 0 (own history w)
 abbrev pub InRegions : List Entry → Type 0
 InRegions [] = Unit {0}
 InRegions (e ∷ es) = (1 ≤ e.region) × (e.region ≤ last_region) × InRegions es
-
--- A history is legal exactly where its restriction to each region is.
-abbrev pub RegionsLaw : Type 0
-RegionsLaw =
-    (preferred : Preference) (history : List Entry) → IsWellNumbered history → InRegions history
-    → (IsLegal preferred history ↔ ((r : ℕ) → 1 ≤ r → r ≤ last_region → IsLegal preferred (of_region r history)))
 
 -- whether an address is in the object, its end included
 abbrev pub covers : ℕ → Object Name ℕ → Bool

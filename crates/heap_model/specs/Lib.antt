@@ -1,4 +1,4 @@
-pub mod Regions
+pub mod Objects
 pub mod Reaches
 pub mod Cells
 pub mod Heap

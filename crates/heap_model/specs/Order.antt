@@ -41,9 +41,3 @@ pub record IsRecord (preferred : Preference) (passes : ℕ → List Entry) (hist
   pub numbered : IsWellNumbered history
   pub stamped : IsStamped history
   pub own_is : (w : ℕ) → own history w ≡ passes w
-
--- Region histories and callers' orders have one common extension.
-abbrev pub MergeLaw : Type 0
-MergeLaw =
-    (preferred : Preference) (parts passes : ℕ → List Entry) (history : List Entry) → ArePasses preferred parts passes → IsMerge parts history → InRegions history
-    → IsRecord preferred passes history

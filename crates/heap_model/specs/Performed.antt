@@ -1,7 +1,7 @@
 -- Accesses that are performed, and bounds that are found.
 use Rattle.std.specs.Prelude.{◌≡◌, ℕ, ◌+◌, ◌%◌, ◌≤◌, Bool, true, false, List, ◌∷◌, ◌++◌, length, Option, Some, None, IsFalse}
 use Rattle.type_layout.specs.declared.preference.Bounds.{Bounds}
-use Rattle.heap_model.specs.Regions.{address_of}
+use Rattle.slot_headers.specs.Words.{address_of}
 use Rattle.heap_model.specs.Cells.{width}
 use Rattle.heap_model.specs.Heap.{Body, empty}
 use Rattle.heap_model.specs.Preference.{Preference}

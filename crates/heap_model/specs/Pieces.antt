@@ -1,7 +1,7 @@
 -- How pointer values lie in objects: in aligned pieces of eight cells, and whole.
 use Rattle.std.specs.Prelude.{ℕ, ◌≡◌, ◌*◌, ◌<◌, ◌≤◌, List, ◌++◌}
 use Rattle.std.specs.List.{AllByRecursion}
-use Rattle.heap_model.specs.Regions.{version_of}
+use Rattle.slot_headers.specs.Words.{version_of}
 use Rattle.heap_model.specs.Cells.{Cell, Byte, Part, parts, cells_at}
 use Rattle.heap_model.specs.Heap.{empty}
 use Rattle.heap_model.specs.Preference.{Preference}

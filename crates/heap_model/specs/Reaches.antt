@@ -1,7 +1,8 @@
 -- How whoever runs a program works with reaches and words: the bounds of a member, the tests of an access, of a pointer that
 -- is kept, of a comparison, and the arithmetic on pointers (C11 6.5.6).
 use Rattle.std.specs.Prelude.{ℕ, suc, ◌+◌, ◌-◌, ◌*◌, ◌%◌, ◌^◌, ℤ, pos, negsuc, Bool, false, ◌&&◌, ◌==◌, nat_le, min, max, Option, Some, None}
-use Rattle.heap_model.specs.Regions.{header_bytes, Slot, is_slot, slot_of, slot_base, region_of, size_of, address_of, version_of, pack}
+use Rattle.lowfat_regions.specs.Regions.{header_bytes, Slot, is_slot, slot_of, slot_base, region_of, size_of}
+use Rattle.slot_headers.specs.Words.{address_of, version_of, pack}
 use Rattle.heap_model.specs.declared.calls.Reach.{Reach}
 
 -- a reach that is cut to the addresses of a part of it

@@ -1,6 +1,6 @@
 -- Histories and their restrictions to regions, whoever numbered the calls.
 use Rattle.std.specs.Prelude.{ℕ, ◌↔◌, List}
-use Rattle.heap_model.specs.Regions.{IsRegion}
+use Rattle.lowfat_regions.specs.Regions.{IsRegion}
 use Rattle.heap_model.specs.Preference.{Preference}
 use Rattle.heap_model.specs.Legal.{IsLegal, InRegions, of_region}
 use Rattle.heap_model.specs.declared.calls.Entry.{Entry}

@@ -1,6 +1,7 @@
 -- What the heap of one region keeps, slot by slot, and the heaps of objects that it stands for.
 use Rattle.std.specs.Prelude.{ℕ, ◌≡◌, ◌+◌, Bool, false, ◌&&◌, ◌||◌, ◌==◌, nat_lt, cond, if◌then◌else◌, List, get_or, sum_by, Option, Some, None, is_some, is_none}
-use Rattle.heap_model.specs.Regions.{Slot, is_slot, slot_of, version_of}
+use Rattle.lowfat_regions.specs.Regions.{Slot, is_slot, slot_of}
+use Rattle.slot_headers.specs.Words.{version_of}
 use Rattle.heap_model.specs.Heap.{Body, live_body, has_dead, live_count, made_count, is_of}
 use Rattle.heap_model.specs.Answers.{region, Words, is_in, is_at, Live, Dead}
 

@@ -6,8 +6,8 @@ ghost use Rattle.heap_model.specs.Forms.{fits_call, suits_call};
 
 use crate::access::{low_bytes, sign_extension};
 use crate::calls::{AccessKind, Call, Reply, ReportKind, Value};
-use crate::regions::{class_of, region_of};
-use crate::words::{address_of, version_of};
+use lowfat_regions::{class_of, region_of};
+use slot_headers::PtrWord;
 
 /// The region of an address, and 1 where it is in none.
 fn region_or_one(address: u64) -> Option<u32>
@@ -23,11 +23,18 @@ pub fn region_for(call: &Call) -> Option<u32>
 {
     match *call {
         Call::Alloc { size, .. } => class_of(size),
-        Call::Free { p, .. } | Call::Check { p, .. } => region_or_one(address_of(p)),
+        Call::Free { p, .. } | Call::Check { p, .. } => region_or_one(PtrWord::parts(p).0),
         Call::Load { reach, .. } | Call::Store { reach, .. } | Call::Add { reach, .. } => {
             region_or_one(reach.lo)
         }
     }
+}
+
+/// Whether a word is not null.
+fn has_version(word: u64) -> bool
+    ensures { result ≡ spec.has_version word }
+{
+    PtrWord::parts(word).1 > 0
 }
 
 fn is_number(kind: AccessKind) -> bool
@@ -43,12 +50,12 @@ fn may_store(kind: AccessKind, value: Value) -> bool
     match kind {
         AccessKind::Ptr => {
             if value.pointer {
-                version_of(value.bits) > 0
+                has_version(value.bits)
             } else {
                 value.bits == 0
             }
         }
-        AccessKind::Word => !value.pointer || version_of(value.bits) > 0,
+        AccessKind::Word => !value.pointer || has_version(value.bits),
         _ => !value.pointer,
     }
 }
@@ -79,7 +86,7 @@ fn gives_value(kind: AccessKind, value: Value) -> bool
     ensures { result ≡ spec.gives_value kind value }
 {
     if value.pointer {
-        !is_number(kind) && version_of(value.bits) > 0
+        !is_number(kind) && has_version(value.bits)
     } else {
         can_give(kind, value.bits)
     }
@@ -109,7 +116,7 @@ fn suits_alloc(reply: &Reply) -> bool
     ensures { result ≡ spec.suits_alloc reply.now }
 {
     match *reply {
-        Reply::Placed(word) => version_of(word) > 0,
+        Reply::Placed(word) => has_version(word),
         Reply::NoSlot => true,
         _ => false,
     }

@@ -2,7 +2,7 @@
 
 ghost use Rattle.std.specs.Prelude.{◌≡◌, IsTrue};
 ghost use Rattle.c_types.specs.Table.{basic_types};
-ghost use Rattle.heap_model.specs.Regions.{IsRegion};
+ghost use Rattle.lowfat_regions.specs.Regions.{IsRegion};
 ghost use Rattle.typed_heap.specs.Takes as takes;
 ghost use Rattle.typed_heap.specs.Takes.{KnowsElements, KnowsTypes};
 

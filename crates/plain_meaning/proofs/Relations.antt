@@ -17,7 +17,7 @@ use Rattle.plain_meaning.specs.declared.tree.Statement.TheViews.{roll-Statement}
 use Rattle.plain_meaning.specs.declared.tree.Function.{Function}
 use Rattle.plain_meaning.specs.Tree.{Action, Null, IsNull, Allocate, Free, Load, Store, Pass, Convert, Move, Tree, Return, Print, Turn, Point}
 use Rattle.plain_meaning.specs.Points.{number_of}
-use Rattle.heap_model.specs.Regions.{max_object_bytes}
+use Rattle.lowfat_regions.specs.Regions.{max_object_bytes}
 use Rattle.plain_meaning.specs.Values.{Variables, zero_of, is_true, type_of, size_of, kind_of}
 use Rattle.plain_meaning.specs.Meaning.{Gives, Does, pointer_in, pointer, heap_call, allocation, cast, free_variable, element, expression, in_order, repeat, number_line, statement, body_of}
 use Rattle.plain_meaning.proofs.Equations as equation

@@ -17,7 +17,7 @@ use Rattle.plain_meaning.specs.declared.tree.Function.{Function}
 use Rattle.plain_meaning.specs.declared.tree.Program.{Program}
 use Rattle.plain_meaning.specs.Tree.{Action, Null, IsNull, Allocate, Free, Load, Store, Pass, Convert, Move, Tree, Return, Lost, Print, Turn, Point}
 use Rattle.plain_meaning.specs.Points.{number_of}
-use Rattle.heap_model.specs.Regions.{max_object_bytes}
+use Rattle.lowfat_regions.specs.Regions.{max_object_bytes}
 use Rattle.plain_meaning.specs.Values.{Variables, zero_of, value_of, is_true, operate, conversion, type_of, size_of, width_of, kind_of}
 
 -- ---- pointers

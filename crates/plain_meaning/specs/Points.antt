@@ -1,7 +1,7 @@
 -- What a mode makes of a point: a value, an ending, or one call on the heap with what its reply leads to.
 use Rattle.std.specs.Prelude.{ℕ, ◌+◌, ◌==◌, Bool, true, false, cond, ℤ, pos, negsuc}
 use Rattle.std.specs.Int.{w64, cast_signed, cast_unsigned}
-use Rattle.heap_model.specs.Regions.{address_of, version_of}
+use Rattle.slot_headers.specs.Words.{address_of, version_of}
 use Rattle.heap_model.specs.Reaches.{may_escape, slot_bounds, moved}
 use Rattle.heap_model.specs.declared.calls.Reach.{Reach}
 use Rattle.heap_model.specs.declared.calls.Value.{Value}

@@ -1,5 +1,5 @@
--- The heap of a region, and the regions of calls.
-use Rattle.std.proofs.Common.{◌≡◌, ◌≢◌, ℕ, zero, suc, ◌+◌, ◌-◌, ◌<◌, ◌≤◌, Bool, true, false, cond, List, [], ◌∷◌, ◌++◌, length, get_or, set, Option, Some, None, Result, Ok, Err, IfOk, refl, sym, ap, ◌∙◌, subst, arith, unwrap_or, ◌⊎◌, inl, inr, get_or-set_same, get_or-set_other}
+-- The heap of a region.
+use Rattle.std.proofs.Common.{◌≡◌, ◌≢◌, ℕ, zero, suc, ◌+◌, ◌-◌, ◌<◌, ◌≤◌, Bool, true, false, cond, List, [], ◌∷◌, ◌++◌, length, get_or, set, Option, Some, None, Result, Ok, Err, IfOk, refl, sym, ap, ◌∙◌, subst, arith, ◌⊎◌, inl, inr, get_or-set_same, get_or-set_other}
 use Rattle.std.proofs.Math.ListN.{get_or-append}
 use Rattle.std.proofs.Math.Seq.{get_or-append_seam}
 use Rattle.std.proofs.lemmas.List.{get_or_default}
@@ -13,46 +13,7 @@ use Rattle.heap_model.specs.State.{State, StandsFor}
 use Rattle.heap_model.specs.declared.calls.Reply.{Reply}
 use Rattle.typed_heap.specs.Takes.{KnowsElements}
 use Rattle.region_heaps.specs.Regions.{IsEmptyHeap, Steps, heap_of, no_heap}
-use Rattle.std.proofs.lemmas.Bool.{and_parts, leb-true, ltb-true}
-use Rattle.std.proofs.lemmas.Option.{same_Some, none-some}
-use Rattle.heap_model.specs.Forms.{region_for, region_or_one}
-use Rattle.heap_model.specs.Regions.{IsRegion, class_of, region_of, address_of, sizes}
 use Rattle.heap_model.specs.declared.calls.Call.{Call}
-use Rattle.heap_model.specs.declared.calls.Call.TheVariants.{Alloc, Free, Check, Load, Store, Add}
-
-chosen : (b : Bool) (x r : ℕ) → cond b (Some x) None ≡ Some r → (b ≡ true) × (x ≡ r)
-chosen true x r e = (refl, same_Some _ _ e)
-chosen false x r e = absurd (none-some _ e)
-
-region_of-range : (o : Option ℕ) (r : ℕ) → ((q : ℕ) → o ≡ Some q → IsRegion q) → Some (unwrap_or o 1) ≡ Some r → IsRegion r
-region_of-range None r range e = subst IsRegion (same_Some _ _ e) (omega arith, omega arith)
-region_of-range (Some q) r range e = subst IsRegion (same_Some _ _ e) (range q refl)
-
-address-range : (address r : ℕ) → region_of address ≡ Some r → IsRegion r
-unfolding region_of
-address-range address r e =
-    let is = chosen _ _ r e in
-    let both = and_parts _ _ is.0 in
-    subst IsRegion is.1 (ltb-true _ _ both.0, leb-true _ _ both.1)
-
-region_or_one-range : (address r : ℕ) → region_or_one address ≡ Some r → IsRegion r
-region_or_one-range address r e = region_of-range (region_of address) r (address-range address) e
-
-class_of-range : (size r : ℕ) → class_of size ≡ Some r → IsRegion r
-unfolding class_of sizes
-class_of-range size r e =
-    let is = chosen _ _ r e in
-    let below = ltb-true _ _ is.0 in
-    (omega (arith, is.1), omega (arith, is.1, below))
-
-pub region_for-range : (call : Call) (r : ℕ) → region_for call ≡ Some r → IsRegion r
-unfolding region_for
-region_for-range (Alloc elem size fixed) r e = class_of-range size r e
-region_for-range (Free p fixed) r e = region_or_one-range (address_of p) r e
-region_for-range (Check p want) r e = region_or_one-range (address_of p) r e
-region_for-range (Load p reach kind) r e = region_or_one-range reach.lo r e
-region_for-range (Store p reach kind v) r e = region_or_one-range reach.lo r e
-region_for-range (Add p reach kind n) r e = region_or_one-range reach.lo r e
 
 -- ---- one heap more
 

@@ -14,7 +14,7 @@ use Rattle.typed_heap.specs.Takes.{KnowsElements}
 use Rattle.typed_heap.specs.SlotStates.{state_at}
 use Rattle.region_heaps.specs.Kept.{IsHeapOf, Keeps}
 use Rattle.region_heaps.specs.Regions.{AreEmpty, Steps, heap_of}
-use Rattle.region_heaps.proofs.ByRegion.{region_for-range}
+use Rattle.heap_model.proofs.Restricted.{call-region}
 use Rattle.region_heaps.proofs.Pushed.{of_region-push_here, of_region-push_there, own-push_here, own-push_there, StampsFrom-push, InRegions-push, IsWellNumbered-push}
 
 -- ---- at first
@@ -99,7 +99,7 @@ module _ (types : Types) (old new : List State) (history : List Entry) (e : Entr
     pub Keeps-push : Keeps types old counts history → length new ≡ length old → e.number ≡ counts e.worker → e.stamp ≡ length history + 1
         → Keeps types new counts' (history ++ e ∷ [])
     Keeps-push keeps as_many number stamp =
-        let range = region_for-range e.call e.region home in
+        let range = call-region e.call e.region home in
         record {
           count = as_many ∙ keeps.count;
           each = λ r low high. each r (keeps.each r low high);

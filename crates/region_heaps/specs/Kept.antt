@@ -4,7 +4,7 @@ use Rattle.c_types.specs.Table.{Types, basic_types}
 use Rattle.heap_model.specs.Heap.{empty}
 use Rattle.heap_model.specs.Legal.{InRegions, IsLegal, IsWellNumbered, of_region, own, replay}
 use Rattle.heap_model.specs.Preference.{preference_of}
-use Rattle.heap_model.specs.Regions.{last_region}
+use Rattle.lowfat_regions.specs.Regions.{last_region}
 use Rattle.heap_model.specs.State.{State, StandsFor}
 use Rattle.heap_model.specs.declared.calls.Entry.{Entry}
 use Rattle.typed_heap.specs.Takes.{KnowsElements}

@@ -13,7 +13,7 @@ ghost use Rattle.region_heaps.specs.Entries.{StampsFrom, next_entry};
 use crate::numbers::Numbers;
 use crate::regions::{empty_heaps, step};
 use c_types::TypeTable;
-use heap_model::{Call, Entry, History, Reply, law_regions, region_for};
+use heap_model::{Call, Entry, History, Reply, law_restrictions, region_for};
 use std::alloc::{AllocError, Global};
 use std::marker::Model;
 use typed_heap::RegionHeap;
@@ -59,7 +59,7 @@ pub fn law_history(heaps: &RegionHeaps)
     ensures regions { InRegions heaps.now }
 {
     let _ = &heaps.history;
-    law_regions();
+    law_restrictions();
 }
 
 impl RegionHeaps {

@@ -6,7 +6,8 @@ ghost use Rattle.typed_heap.specs.Takes.{KnowsElements, KnowsTypes, moves_number
 ghost use Rattle.region_heaps.specs.Regions.{AreEmpty, Steps, heap_of};
 
 use c_types::TypeTable;
-use heap_model::{Call, REGIONS, Reply};
+use heap_model::{Call, Reply};
+use lowfat_regions::REGIONS;
 use std::alloc::{AllocError, Global};
 use typed_heap::RegionHeap;
 

@@ -1,7 +1,9 @@
 -- Addresses and offsets are below 2^40.
 use Rattle.std.proofs.Common.{ℕ, ◌<◌, ◌^◌, ◌+◌, ◌-◌, lit<}
 use Rattle.std.proofs.lemmas.Nat.{mod_below}
-use Rattle.heap_model.specs.Regions.{Slot, address_of, offset_in, slot_address}
+use Rattle.lowfat_regions.specs.Regions.{Slot, slot_address}
+use Rattle.slot_headers.specs.Words.{address_of}
+use Rattle.heap_model.specs.Objects.{offset_in}
 
 pub address_below : (word : ℕ) → address_of word < 2 ^ 40
 unfolding address_of

@@ -4,7 +4,9 @@ use Rattle.std.specs.Prelude.{codes}
 use Rattle.std.specs.Fmt.{digits}
 use Rattle.c_types.specs.Table.{basic_kinds, basic_types}
 use Rattle.c_types.specs.declared.kinds.CType.TheVariants.{Pointer}
-use Rattle.heap_model.specs.Regions.{slot_of, slot_in, region_of, address_of, version_of, first_multiple, size_of, sizes, slots, slot_address, offset_in}
+use Rattle.lowfat_regions.specs.Regions.{slot_of, slot_in, region_of, first_multiple, size_of, sizes, slots, slot_address}
+use Rattle.slot_headers.specs.Words.{address_of, version_of}
+use Rattle.heap_model.specs.Objects.{offset_in}
 use Rattle.heap_model.specs.declared.calls.Reach.{Reach}
 use Rattle.heap_model.specs.declared.calls.Call.TheVariants.{Alloc}
 use Rattle.heap_model.specs.declared.calls.Reply.TheVariants.{Placed}

@@ -6,7 +6,8 @@ use Rattle.std.proofs.Math.Seq.{drop-cons}
 use Rattle.std.proofs.lemmas.List.Elements.{filter_map-append}
 use Rattle.std.proofs.lemmas.List.Folds.{find-append}
 use Rattle.std.proofs.lemmas.Option.{slice_get_within, get_or_from_slice_get}
-use Rattle.heap_model.specs.Regions.{Slot, slot_of, version_of}
+use Rattle.lowfat_regions.specs.Regions.{Slot, slot_of}
+use Rattle.slot_headers.specs.Words.{version_of}
 use Rattle.heap_model.specs.Answers.{Name, is_at}
 use Rattle.heap_model.specs.declared.calls.Entry.{Entry}
 use Rattle.reports.specs.declared.object.Object.{Object}

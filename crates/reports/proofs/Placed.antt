@@ -3,7 +3,8 @@ use Rattle.std.proofs.Common.{◌≡◌, ℕ, ◌+◌, ◌≤◌, Bool, true, fa
 use Rattle.std.specs.List.{cons_option}
 use Rattle.std.specs.Option.{option_to_list}
 use Rattle.std.proofs.lemmas.List.Elements.{filter-append}
-use Rattle.heap_model.specs.Regions.{Slot, slot_of, address_of, version_of}
+use Rattle.lowfat_regions.specs.Regions.{Slot, slot_of}
+use Rattle.slot_headers.specs.Words.{address_of, version_of}
 use Rattle.heap_model.specs.Cells.{Cell, Stores, Adds, access_cells}
 use Rattle.heap_model.specs.Heap.{Object, empty, made_count, with_new, with_dead, with_cells, with_cells_if}
 use Rattle.heap_model.specs.Answers.{Name, Words, names, is_at, slot_at, offset, datum, new_object, next}

@@ -2,7 +2,7 @@
 use Rattle.std.proofs.Common.{◌≡◌, ℕ, ◌<◌, ◌≤◌, ◌&&◌, Bool, true, false, nat_lt, nat_le, Option, Some, None, option_map, if◌then◌else◌, refl, arith, ◌/◌, ◌-◌}
 use Rattle.std.proofs.lemmas.Grind.{common_steps}
 use Rattle.std.proofs.lemmas.Bool.{ltb-true}
-use Rattle.heap_model.specs.Regions.{Slot, slots, slot_of, slot_in, slot_number, region_of, first_multiple, size_of}
+use Rattle.lowfat_regions.specs.Regions.{Slot, slots, slot_of, slot_in, slot_number, region_of, first_multiple, size_of}
 
 pub in_regions : (a r : ℕ) → region_of a ≡ Some r → (1 ≤ r) × (r ≤ 27)
 unfolding region_of

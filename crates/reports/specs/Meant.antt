@@ -1,5 +1,5 @@
 -- What the slots and the objects of the code mean.
-use Rattle.heap_model.specs.Regions as regions
+use Rattle.lowfat_regions.specs.Regions as regions
 use Rattle.heap_model.specs.Answers.{Name}
 use Rattle.reports.specs.declared.slot.Slot.{Slot}
 use Rattle.reports.specs.declared.object.Object.{Object}

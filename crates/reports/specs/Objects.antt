@@ -2,7 +2,9 @@
 use Rattle.std.specs.Prelude.{◌≡◌, ℕ, ◌^◌, ◌≤◌, nat_lt, Bool, if◌then◌else◌, List, ◌++◌, length, filter, find, codes, Option, Some, None, option_map, pos, ◌-ℤ◌, ℤ}
 use Rattle.std.specs.List.{filter_map}
 use Rattle.std.specs.Fmt.{decimal, signed_decimal}
-use Rattle.heap_model.specs.Regions.{slot_of, address_of, version_of, offset_in}
+use Rattle.lowfat_regions.specs.Regions.{slot_of}
+use Rattle.slot_headers.specs.Words.{address_of, version_of}
+use Rattle.heap_model.specs.Objects.{offset_in}
 use Rattle.heap_model.specs.Heap.{empty, made_count}
 use Rattle.heap_model.specs.Answers.{Name, names}
 use Rattle.heap_model.specs.Preference.{Preference}

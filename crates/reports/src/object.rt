@@ -2,13 +2,15 @@
 
 ghost use Rattle.std.specs.Prelude.{◌≡◌, ◌∷◌, [], option_map, find, Some};
 ghost use Rattle.std.specs.List.{filter_map};
-ghost use Rattle.heap_model.specs.Regions as regions;
 ghost use Rattle.heap_model.specs.Answers.{is_at};
+ghost use Rattle.lowfat_regions.specs.Regions as regions;
 ghost use Rattle.reports.specs.Objects as spec;
 ghost use Rattle.reports.specs.Meant.{slot_name, name_of};
 
 use crate::slot::Slot;
-use heap_model::{Call, Entry, History, Reply, address_of, region_of, slot_number, version_of};
+use heap_model::{Call, Entry, History, Reply};
+use lowfat_regions::{region_of, slot_number};
+use slot_headers::PtrWord;
 
 /// An object: its slot, its version there, and the worker and the number of the call that placed it.
 #[derive(Clone, Copy)]
@@ -34,10 +36,11 @@ fn object_of(entry: &Entry) -> Option<Object>
 {
     match (entry.call, entry.reply) {
         (Call::Alloc { .. }, Reply::Placed(word)) => {
-            let slot = slot_of(address_of(word))?;
+            let (address, version) = PtrWord::parts(word);
+            let slot = slot_of(address)?;
             Some(Object {
                 slot,
-                version: version_of(word),
+                version,
                 worker: entry.worker,
                 number: entry.number,
             })
@@ -63,7 +66,7 @@ pub fn object_named(history: &History, anchor: u64, word: u64) -> Option<Object>
     ensures { option_map name_of result ≡ spec.object_named history.now.entries anchor word }
 {
     let slot = slot_of(anchor)?;
-    let version = version_of(word);
+    let (_, version) = PtrWord::parts(word);
     for at in 0..history.len() {
         let found = object_in(&history.get(at), slot, version);
         if found.is_some() {

@@ -5,8 +5,9 @@ ghost use Rattle.reports.specs.Objects as spec;
 ghost use Rattle.reports.specs.Meant.{name_of};
 
 use crate::object::Object;
-use heap_model::{Reach, address_of, offset_of};
+use heap_model::{Reach, offset_of};
 use plain_meaning::Text;
+use slot_headers::PtrWord;
 use std::alloc::{AllocError, Global};
 
 /// The first address that no word has, and the offsets' modulus.
@@ -18,9 +19,10 @@ fn distance(object: Option<Object>, word: u64) -> u64
     ensures exact { result ≡ spec.distance (option_map name_of object) word }
     ensures below { result < 2 ^ 40 }
 {
+    let (address, _) = PtrWord::parts(word);
     match object {
-        Some(object) => offset_of(object.slot.region, object.slot.number, address_of(word)),
-        None => address_of(word),
+        Some(object) => offset_of(object.slot.region, object.slot.number, address),
+        None => address,
     }
 }
 

@@ -1,7 +1,7 @@
 //! Slots by their regions and numbers.
 
 ghost use Rattle.std.specs.Prelude.{◌<◌};
-ghost use Rattle.heap_model.specs.Regions.{IsRegion, slots};
+ghost use Rattle.lowfat_regions.specs.Regions.{IsRegion, slots};
 
 /// A slot of a region from 1 to 27.
 #[derive(Clone, Copy, PartialEq, Eq)]

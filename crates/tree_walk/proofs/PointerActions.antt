@@ -3,7 +3,8 @@ use Rattle.std.proofs.Common.{◌≡◌, ℕ, ◌<◌, ◌≤◌, true, false, c
 use Rattle.std.specs.Prelude.{nat_le}
 use Rattle.std.proofs.lemmas.Bool.Decides.{nat_tests}
 use Rattle.c_types.specs.Table.{basic_types, HasSize, shape_of}
-use Rattle.heap_model.specs.Regions.{max_object_bytes, address_of, region_of}
+use Rattle.lowfat_regions.specs.Regions.{max_object_bytes, region_of}
+use Rattle.slot_headers.specs.Words.{address_of}
 use Rattle.heap_model.specs.Reaches.{may_escape, slot_bounds}
 use Rattle.heap_model.specs.Forms.{suits_alloc}
 use Rattle.heap_model.specs.declared.calls.Reply.{Reply}

@@ -3,7 +3,8 @@ use Rattle.std.proofs.Common.{◌≡◌, ℕ, ◌+◌, ◌-◌, ◌*◌, ◌%◌
 use Rattle.std.specs.Prelude.{◌<ℤ◌, ◌≤ℤ◌, unsigned_abs}
 use Rattle.std.proofs.lemmas.Int.{ints}
 use Rattle.std.proofs.Math.Nat.{mul-le-mul_left}
-use Rattle.heap_model.specs.Regions.{region_of, slot_base, size_of, address_of}
+use Rattle.lowfat_regions.specs.Regions.{region_of, slot_base, size_of}
+use Rattle.slot_headers.specs.Words.{address_of}
 use Rattle.heap_model.specs.Reaches.{moved_address, slot_bounds}
 
 pub distance_below : (n size : ℕ) → n ≤ 2 ^ 31 → size ≤ 8 → n * size ≤ 2 ^ 34

@@ -13,7 +13,8 @@ use crate::pointers::{NULL, is_null, kind_of, may_escape, new_pointer, slot_boun
 use crate::reports::{Subject, escape};
 use crate::stop::Stop;
 use crate::walk::Walk;
-use heap_model::{Call, MAX_OBJECT_BYTES, Reply, Value};
+use heap_model::{Call, Reply, Value};
+use lowfat_regions::MAX_OBJECT_BYTES;
 use plain_meaning::{CheckedPointer, Ending, Target};
 
 impl Walk {

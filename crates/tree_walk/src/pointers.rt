@@ -6,8 +6,10 @@ ghost use Rattle.plain_meaning.specs.Points as points;
 ghost use Rattle.plain_meaning.specs.Values as values;
 
 use c_types::TypeNo;
-use heap_model::{AccessKind, Reach, address_of, pack, region_of, size_of_region, version_of};
+use heap_model::{AccessKind, Reach};
+use lowfat_regions::{region_of, size_of_region};
 use plain_meaning::{CheckedPointer, Target};
+use slot_headers::PtrWord;
 
 /// No addresses.
 pub(crate) const NOWHERE: Reach = Reach { lo: 0, hi: 0 };
@@ -24,7 +26,7 @@ const ADDRESSES: u64 = 1 << 40;
 pub(crate) fn is_null(pointer: &CheckedPointer) -> bool
     ensures { result ≡ points.is_null pointer.now }
 {
-    version_of(pointer.word) == 0
+    PtrWord::parts(pointer.word).1 == 0
 }
 
 /// Whether a word is within its reach or at its end.
@@ -32,16 +34,16 @@ pub(crate) fn is_null(pointer: &CheckedPointer) -> bool
 pub(crate) fn may_escape(pointer: &CheckedPointer) -> bool
     ensures { result ≡ reaches.may_escape pointer.now.reach pointer.now.word }
 {
-    let address = address_of(pointer.word);
+    let (address, _) = PtrWord::parts(pointer.word);
     pointer.reach.lo <= address && address <= pointer.reach.hi
 }
 
 /// The pointer to a new object of this size.
-#[tactic(auto, unfolding(heap_model::specs::Regions::address_of))]
+#[tactic(auto, unfolding(slot_headers::specs::Words::address_of))]
 pub(crate) fn new_pointer(word: u64, size: u32) -> CheckedPointer
     ensures { result ≡ points.new_pointer word size }
 {
-    let lo = address_of(word);
+    let (lo, _) = PtrWord::parts(word);
     let hi = lo + u64::from(size);
     CheckedPointer {
         word,
@@ -50,11 +52,11 @@ pub(crate) fn new_pointer(word: u64, size: u32) -> CheckedPointer
 }
 
 /// The addresses that an object can have whose slot is that of a word.
-#[tactic(auto, unfolding(heap_model::specs::Regions::address_of))]
+#[tactic(auto, unfolding(slot_headers::specs::Words::address_of))]
 pub(crate) fn slot_bounds(word: u64) -> Reach
     ensures { result ≡ reaches.slot_bounds word }
 {
-    let address = address_of(word);
+    let (address, _) = PtrWord::parts(word);
     match region_of(address) {
         Some(region) => {
             let size = size_of_region(region);
@@ -82,14 +84,14 @@ fn shift_address(address: u64, count: i32, size: u32) -> u64
 }
 
 /// A pointer that is moved so, its version and its reach kept.
-#[tactic(auto, unfolding(heap_model::specs::Regions::address_of, heap_model::specs::Regions::version_of, heap_model::specs::Reaches::moved))]
+#[tactic(auto, unfolding(slot_headers::specs::Words::address_of, slot_headers::specs::Words::version_of, heap_model::specs::Reaches::moved))]
 pub(crate) fn shift(pointer: CheckedPointer, count: i32, size: u32) -> CheckedPointer
     requires { size ≤ 8 }
     ensures { result ≡ points.shift pointer count size }
 {
-    let address = shift_address(address_of(pointer.word), count, size);
+    let (address, version) = PtrWord::parts(pointer.word);
     CheckedPointer {
-        word: pack(address, version_of(pointer.word)),
+        word: PtrWord::pack(shift_address(address, count, size), version),
         reach: pointer.reach,
     }
 }

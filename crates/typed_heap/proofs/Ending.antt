@@ -3,7 +3,8 @@ use Rattle.std.proofs.Common.{◌≡◌, ℕ, ◌<◌, ◌≤◌, Bool, true, fa
 use Rattle.std.specs.Prelude.{nat_lt}
 use Rattle.std.proofs.lemmas.Bool.{eq-eqb, eqb-false, ltb-true}
 use Rattle.c_types.specs.Table.{Types, HasSize}
-use Rattle.heap_model.specs.Regions.{Slot, version_of}
+use Rattle.lowfat_regions.specs.Regions.{Slot}
+use Rattle.slot_headers.specs.Words.{version_of}
 use Rattle.heap_model.specs.Cells.{Cell}
 use Rattle.heap_model.specs.Heap.{Body, with_dead}
 use Rattle.heap_model.specs.Answers.{Words, names, is_at}

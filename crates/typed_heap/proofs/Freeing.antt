@@ -2,7 +2,8 @@
 use Rattle.std.proofs.Common.{◌≡◌, ℕ, ◌+◌, Bool, true, false, cond, ◌==◌, List, [], ◌∷◌, ◌++◌, map, filter, Option, Some, None, refl, sym, ap, ◌∙◌, subst}
 use Rattle.std.specs.Prelude.{unwrap_or}
 use Rattle.std.proofs.lemmas.Bool.{eq-eqb, ne_eqb}
-use Rattle.heap_model.specs.Regions.{slot_of, slot_in as slot_within, region_of, slot_address, address_of, version_of}
+use Rattle.lowfat_regions.specs.Regions.{slot_of, slot_in as slot_within, region_of, slot_address}
+use Rattle.slot_headers.specs.Words.{address_of, version_of}
 use Rattle.heap_model.specs.Heap.{Body, Object, free_outcome}
 use Rattle.heap_model.specs.Answers.{Name, Words, Live, Dead, next, answer_by, check_reply, found_reply, first_byte, offset, slot_at, reply, unless_null}
 use Rattle.heap_model.specs.Preference.{Preference}

@@ -5,7 +5,9 @@ use Rattle.std.proofs.lemmas.List.{get_or-set_same, get_or-set_other, get_or_pas
 use Rattle.std.proofs.lemmas.List.Sums.{sum_by-set, sum_by_push}
 use Rattle.std.proofs.lemmas.Bool.{eq-eqb, ne_eqb, cases_eq, cases_lt, ltb-true, ltb-false}
 use Rattle.std.proofs.lemmas.Bool.Decides.{nat_tests}
-use Rattle.heap_model.specs.Regions.{Slot, is_slot, slot_of, slot_number, slot_in as slot_within, first_multiple, size_of, slots, region_of, address_of, version_of, offset_in}
+use Rattle.lowfat_regions.specs.Regions.{Slot, is_slot, slot_of, slot_number, slot_in as slot_within, first_multiple, size_of, slots, region_of}
+use Rattle.slot_headers.specs.Words.{address_of, version_of}
+use Rattle.heap_model.specs.Objects.{offset_in}
 use Rattle.heap_model.specs.Answers.{offset, slot_at}
 use Rattle.heap_model.specs.Heap.{Body}
 use Rattle.heap_model.specs.State.{State, SlotState, fresh_slot, state_of, live_at, dead_at, at_slot, live_by, dead_by, ChangesSlot, one_if}

@@ -1,6 +1,7 @@
 -- What a word names among the slots of a region.
 use Rattle.std.specs.Prelude.{◌≡◌, ℕ, ◌<◌, true, false, length, Some, None, ◌==◌}
-use Rattle.heap_model.specs.Regions.{Slot, slot_of, address_of, version_of}
+use Rattle.lowfat_regions.specs.Regions.{Slot, slot_of}
+use Rattle.slot_headers.specs.Words.{address_of, version_of}
 use Rattle.heap_model.specs.Cells.{Act, access_report, width}
 use Rattle.heap_model.specs.Heap.{Body}
 use Rattle.heap_model.specs.Answers.{access, is_inside, offset}

@@ -1,6 +1,7 @@
 -- What is seen of the heap of a region, and what is kept true of it.
 use Rattle.std.specs.Prelude.{◌-◌, ◌^◌, ◌≤◌, length}
-use Rattle.heap_model.specs.Regions.{last_region, max_objects, slots}
+use Rattle.lowfat_regions.specs.Regions.{last_region, slots}
+use Rattle.heap_model.specs.Objects.{max_objects}
 use Rattle.heap_model.specs.State.{State}
 use Rattle.typed_heap.specs.declared.heap.RegionHeap.TheInside.{Inside}
 use Rattle.typed_heap.specs.SlotStates.{count_made}

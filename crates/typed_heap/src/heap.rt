@@ -9,8 +9,10 @@ ghost use Rattle.heap_model.specs.Forms.{fits_call, is_free_report, is_number, r
 ghost use Rattle.heap_model.specs.Heap.{Body, empty, free_outcome};
 ghost use Rattle.heap_model.specs.Legal.{Answers, AllocAnswers};
 ghost use Rattle.heap_model.specs.Preference.{Preference, preference_of};
-ghost use Rattle.heap_model.specs.Regions as regions;
+ghost use Rattle.heap_model.specs.Objects.{max_objects};
 ghost use Rattle.heap_model.specs.State.{StandsFor, live_objects, all_versions, live_by, dead_by};
+ghost use Rattle.lowfat_regions.specs.Regions as regions;
+ghost use Rattle.slot_headers.specs.Words.{address_of, version_of};
 ghost use Rattle.typed_heap.specs.Naming.{IsInSlot, IsAccess, GetsReport, NamesLive, NamesNone, Names, nth_slot};
 ghost use Rattle.typed_heap.specs.SlotStates.{state_at};
 ghost use Rattle.typed_heap.specs.Takes.{KnowsElements, KnowsTypes, moves_numbers, takes_memory};
@@ -20,10 +22,11 @@ use crate::object::Object;
 use crate::slots::Slots;
 use c_types::{TypeNo, TypeTable};
 use heap_model::{
-    AccessKind, Call, HEADER_BYTES, MAX_OBJECTS, Reach, Reply, ReportKind, Value, address_of,
-    law_slots, law_words, offset_of, pack, region_of, sign_extension, slot_address, slot_number,
-    slots_of, version_of, width_of,
+    AccessKind, Call, MAX_OBJECTS, Reach, Reply, ReportKind, Value, offset_of, sign_extension,
+    width_of,
 };
+use lowfat_regions::{HEADER_BYTES, law_slots, region_of, slot_address, slot_number, slots_of};
+use slot_headers::{PtrWord, law_words};
 use std::alloc::{AllocError, Global};
 use std::marker::Model;
 use type_layout::{Bounds, law_inside, preferred, runs};
@@ -101,7 +104,7 @@ impl RegionHeap {
 
     /// Whether no further object can be placed.
     fn is_full(&self) -> bool
-        ensures { result ≡ ((live_objects self.now == regions.slots self.now.region) || (all_versions self.now == regions.max_objects)) }
+        ensures { result ≡ ((live_objects self.now == regions.slots self.now.region) || (all_versions self.now == max_objects)) }
     {
         self.slots.live() == slots_of(self.region) || self.slots.made() == MAX_OBJECTS
     }
@@ -109,14 +112,14 @@ impl RegionHeap {
     /// The word of the first byte of the last object of a slot.
     fn word(&self, slot: u32) -> u64
         requires { slot < length self.now.states }
-        ensures address { regions.address_of result ≡ regions.slot_address (nth_slot self.now slot) + regions.header_bytes }
-        ensures slot { regions.slot_of (regions.address_of result) ≡ Some (nth_slot self.now slot) }
-        ensures version { regions.version_of result ≡ (state_at self.now.states slot).versions }
+        ensures address { address_of result ≡ regions.slot_address (nth_slot self.now slot) + regions.header_bytes }
+        ensures slot { regions.slot_of (address_of result) ≡ Some (nth_slot self.now slot) }
+        ensures version { version_of result ≡ (state_at self.now.states slot).versions }
     {
         law_slots();
         law_words();
         let first = slot_address(self.region, slot) + HEADER_BYTES;
-        pack(first, self.slots.version(slot))
+        PtrWord::pack(first, self.slots.version(slot))
     }
 
     /// The slot of an address, if it was taken.
@@ -136,13 +139,13 @@ impl RegionHeap {
 
     /// What a word that is not null names by an anchor address.
     fn object_named(&self, anchor: u64, word: u64) -> NamedObject
-        requires { (regions.version_of word == 0) ≡ false }
+        requires { (version_of word == 0) ≡ false }
         ensures { Names self.now anchor word result }
     {
         let Some(slot) = self.slot(anchor) else {
             return NamedObject::Nothing;
         };
-        let version = version_of(word);
+        let (_, version) = PtrWord::parts(word);
         let last = self.slots.version(slot);
         if version > last {
             return NamedObject::Nothing;
@@ -162,7 +165,8 @@ impl RegionHeap {
         ensures value { result ≡ answers.offset anchor word }
         ensures bound { result < 2 ^ 40 }
     {
-        offset_of(self.region, slot, address_of(word))
+        let (address, _) = PtrWord::parts(word);
+        offset_of(self.region, slot, address)
     }
 
     /// Places a new object, all its bytes zero, where there is room for one.
@@ -194,10 +198,11 @@ impl RegionHeap {
         if p == 0 {
             return Reply::Done;
         }
-        if version_of(p) == 0 {
+        let (address, version) = PtrWord::parts(p);
+        if version == 0 {
             return Reply::Report(ReportKind::BadFree);
         }
-        match self.object_named(address_of(p), p) {
+        match self.object_named(address, p) {
             NamedObject::Nothing => Reply::Report(ReportKind::DoubleFree),
             NamedObject::Dead(slot) => Reply::Report(self.free_of_dead(slot, p)),
             NamedObject::Live(slot) => self.free_of_live(slot, p, fixed),
@@ -206,11 +211,12 @@ impl RegionHeap {
 
     /// The report on a free of a word that names a dead object of a slot.
     fn free_of_dead(&self, slot: u32, p: u64) -> ReportKind
-        requires { IsInSlot self.now (regions.address_of p) slot }
-        ensures answer { (fixed : Bool) → Reply.Report result ≡ reply (free_outcome (answers.offset (regions.address_of p) p) fixed None true) }
+        requires { IsInSlot self.now (address_of p) slot }
+        ensures answer { (fixed : Bool) → Reply.Report result ≡ reply (free_outcome (answers.offset (address_of p) p) fixed None true) }
         ensures suits { is_free_report result ≡ true }
     {
-        if self.offset(slot, address_of(p), p) == 0 {
+        let (address, _) = PtrWord::parts(p);
+        if self.offset(slot, address, p) == 0 {
             ReportKind::DoubleFree
         } else {
             ReportKind::BadFree
@@ -219,15 +225,16 @@ impl RegionHeap {
 
     /// Ends the live object of a slot, which a word names, where the word is that of its first byte and it is fixed as told.
     fn free_of_live(&mut self, slot: u32, p: u64, fixed: bool) -> Reply
-        requires version { (regions.version_of p == 0) ≡ false }
-        requires named { NamesLive self.old (regions.address_of p) p slot }
-        ensures answer { (dead : Bool) → result ≡ reply (free_outcome (answers.offset (regions.address_of p) p) fixed (state_at self.old.states slot).body dead) }
+        requires version { (version_of p == 0) ≡ false }
+        requires named { NamesLive self.old (address_of p) p slot }
+        ensures answer { (dead : Bool) → result ≡ reply (free_outcome (answers.offset (address_of p) p) fixed (state_at self.old.states slot).body dead) }
         ensures suits { suits_free result ≡ true }
         ensures next { (worker number : ℕ) (h : Words) → StandsFor self.old h → StandsFor self.new (next worker number h (Call.Free p fixed) result) }
         ensures elements { (types : Types) → KnowsElements types self.old → KnowsElements types self.new }
         ensures region { self.new.region ≡ self.old.region }
     {
-        if self.offset(slot, address_of(p), p) != 0 {
+        let (address, _) = PtrWord::parts(p);
+        if self.offset(slot, address, p) != 0 {
             return Reply::Report(ReportKind::BadFree);
         }
         if self.slots.is_fixed(slot) != fixed {
@@ -244,13 +251,14 @@ impl RegionHeap {
         ensures answer { IfOk result (λ reply. reply ≡ answer_by (preference_of types.now) (live_by self.now) (dead_by self.now) (Call.Check p want)) }
         ensures suits { IfOk result (λ reply. suits_check reply ≡ true) }
     {
-        if version_of(p) == 0 {
+        let (address, version) = PtrWord::parts(p);
+        if version == 0 {
             return Ok(Reply::Report(ReportKind::Null));
         }
-        let NamedObject::Live(slot) = self.object_named(address_of(p), p) else {
+        let NamedObject::Live(slot) = self.object_named(address, p) else {
             return Ok(Reply::Report(ReportKind::Free));
         };
-        let offset = self.offset(slot, address_of(p), p);
+        let offset = self.offset(slot, address, p);
         let Some(bounds) = self.preferred(types, slot, offset, want)? else {
             return Ok(Reply::Report(ReportKind::WrongType));
         };
@@ -291,7 +299,8 @@ impl RegionHeap {
         ensures { MatchResult result (λ at. IsAccess self.now p reach.now kind at.slot at.offset)
             (λ report. GetsReport self.now p reach.now kind report) }
     {
-        if version_of(p) == 0 {
+        let (address, version) = PtrWord::parts(p);
+        if version == 0 {
             return Err(ReportKind::Null);
         }
         let NamedObject::Live(slot) = self.object_named(reach.lo, p) else {
@@ -299,7 +308,7 @@ impl RegionHeap {
         };
         let offset = self.offset(slot, reach.lo, p);
         let width = width_of(kind);
-        let inside = is_inside(reach, address_of(p), width);
+        let inside = is_inside(reach, address, width);
         match access_report(inside, offset, width, self.slots.size(slot)) {
             Some(report) => Err(report),
             None => Ok(Location { slot, offset }),

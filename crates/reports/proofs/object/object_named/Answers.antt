@@ -12,17 +12,17 @@ returns-in_err-slot c =
 
 pub loop-at-init : goal.loop-at-init
 loop-at-init c =
-    named_by c.args.history.now.entries c.args.anchor c.args.word c.version_of-version.result (slot_name c.in_ok-slot.slot)
-    (sym c.in_ok-slot.ensures) c.version_of-version.ensures
+    named_by c.args.history.now.entries c.args.anchor c.args.word c.parts-version.result.1 (slot_name c.in_ok-slot.slot)
+    (sym c.in_ok-slot.ensures) c.parts-version.ensures.version
 
 pub returns-then-is_some : goal.returns-then-is_some
 returns-then-is_some c =
-    found_here (is_at (Some (slot_name c.in_ok-slot.slot)) c.version_of-version.result) c.args.history.now.entries c.loop-at.at
+    found_here (is_at (Some (slot_name c.in_ok-slot.slot)) c.parts-version.result.1) c.args.history.now.entries c.loop-at.at
     c.get.result c.object_in-found.result (object_named c.args.history.now.entries c.args.anchor c.args.word) c.get.ensures
     c.loop-at.invariant c.object_in-found.ensures (sym c.is_some.ensures ∙ c.if-is_some.true)
 
 pub loop-at-preserved : goal.loop-at-preserved
 loop-at-preserved c =
-    not_here (is_at (Some (slot_name c.in_ok-slot.slot)) c.version_of-version.result) c.args.history.now.entries c.loop-at.at
+    not_here (is_at (Some (slot_name c.in_ok-slot.slot)) c.parts-version.result.1) c.args.history.now.entries c.loop-at.at
     c.get.result c.object_in-found.result (object_named c.args.history.now.entries c.args.anchor c.args.word) c.get.ensures
     c.loop-at.invariant c.object_in-found.ensures (sym c.is_some.ensures ∙ c.if-is_some.false)

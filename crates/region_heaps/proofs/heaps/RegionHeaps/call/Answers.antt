@@ -9,29 +9,29 @@ use Rattle.region_heaps.specs.Kept.{Keeps}
 use Rattle.region_heaps.specs.Numbers.{count_of}
 use Rattle.region_heaps.specs.Regions.{Steps, heap_of}
 use Rattle.region_heaps.proofs.Keeping.{Keeps-push}
-use Rattle.region_heaps.proofs.ByRegion.{region_for-range}
+use Rattle.heap_model.proofs.Restricted.{call-region}
 use Rattle.region_heaps.proofs.Pushed.{own-le}
 use Rattle.region_heaps.proofs.heaps.RegionHeaps.call.Goals as goal
 
 pub step-requires-clause-low : goal.step-requires-clause-low
-step-requires-clause-low c = (region_for-range c.args.call.now c.unwrap-region.result (sym c.region_for.ensures ∙ c.unwrap-region.ensures)).0
+step-requires-clause-low c = (call-region c.args.call.now c.unwrap-region.result (sym c.region_for.ensures ∙ c.unwrap-region.ensures)).0
 
 pub step-requires-clause-high : goal.step-requires-clause-high
 step-requires-clause-high c =
-    let range = region_for-range c.args.call.now c.unwrap-region.result (sym c.region_for.ensures ∙ c.unwrap-region.ensures) in
+    let range = call-region c.args.call.now c.unwrap-region.result (sym c.region_for.ensures ∙ c.unwrap-region.ensures) in
     omega (arith, range.1, ap length c.deref_mut.ensures.value, c.self.invariant.keeps.count)
 
 pub step-requires-clause-of_region : goal.step-requires-clause-of_region
 step-requires-clause-of_region c =
     let region = c.unwrap-region.result in
-    let range = region_for-range c.args.call.now region (sym c.region_for.ensures ∙ c.unwrap-region.ensures) in
+    let range = call-region c.args.call.now region (sym c.region_for.ensures ∙ c.unwrap-region.ensures) in
     let P : List State → Type 0 = λ heaps. (heap_of heaps region).region ≡ region in
     subst P (sym c.deref_mut.ensures.value) (c.self.invariant.keeps.each region range.0 range.1).region_is
 
 pub step-requires-clause-elements : goal.step-requires-clause-elements
 step-requires-clause-elements c =
     let region = c.unwrap-region.result in
-    let range = region_for-range c.args.call.now region (sym c.region_for.ensures ∙ c.unwrap-region.ensures) in
+    let range = call-region c.args.call.now region (sym c.region_for.ensures ∙ c.unwrap-region.ensures) in
     let P : List State → Type 0 = λ heaps. KnowsElements c.self.inside.types (heap_of heaps region) in
     let Q : Types → Type 0 = λ types. KnowsElements types (heap_of c.self.inside.heaps.items region) in
     subst P (sym c.deref_mut.ensures.value) (subst Q (sym c.self.invariant.types) (c.self.invariant.keeps.each region range.0 range.1).elements)

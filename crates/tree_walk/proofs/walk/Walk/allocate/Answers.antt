@@ -13,7 +13,7 @@ use Rattle.plain_meaning.specs.Values.{zero_of, type_of}
 use Rattle.plain_meaning.specs.Meaning.{allocation}
 use Rattle.tree_walk.specs.Steps.{Events, IsAsked, no_value, onward}
 use Rattle.tree_walk.proofs.Passing.{passes_on, to_words, stops, ask_stops}
-use Rattle.heap_model.proofs.Classes.{class_of_some}
+use Rattle.lowfat_regions.proofs.Classes.{class_of_some}
 use Rattle.tree_walk.proofs.PointerActions.{with_room, has_size, null_subject, no_slot}
 use Rattle.tree_walk.proofs.walk.Walk.allocate.Goals as goal
 

@@ -2,7 +2,8 @@ use Rattle.std.proofs.Common.{◌≡◌, ◌∙◌, ◌+◌, ◌≤◌, ℕ, ◌
 use Rattle.heap_model.specs.Heap.{Body}
 use Rattle.heap_model.specs.Legal.{AllocAnswers}
 use Rattle.heap_model.specs.Answers.{next}
-use Rattle.heap_model.specs.Regions.{address_of, version_of, slot_of, slot_address, slots}
+use Rattle.lowfat_regions.specs.Regions.{slot_of, slot_address, slots}
+use Rattle.slot_headers.specs.Words.{address_of, version_of}
 use Rattle.heap_model.specs.Cells.{zeros}
 use Rattle.typed_heap.specs.Naming.{nth_slot}
 use Rattle.heap_model.specs.State.{State, StandsFor, live_objects, all_versions}

@@ -1,5 +1,5 @@
 use Rattle.std.proofs.Common.{◌≡◌, ◌∙◌, set, sym, ap, subst}
-use Rattle.heap_model.specs.Regions.{address_of}
+use Rattle.slot_headers.specs.Words.{address_of}
 use Rattle.heap_model.specs.Heap.{with_dead}
 use Rattle.heap_model.specs.Answers.{names, next}
 use Rattle.heap_model.specs.State.{State, StandsFor}

@@ -1,13 +1,14 @@
 use Rattle.std.proofs.Common.{◌≡◌, ◌∙◌, ◌+◌, ◌<◌, ◌^◌, Some, length, ap, arith}
-use Rattle.heap_model.specs.Regions.{Slot, IsPacked, address_of, version_of, slot_of, slot_address, slots}
+use Rattle.lowfat_regions.specs.Regions.{Slot, slot_of, slot_address, slots}
+use Rattle.slot_headers.specs.Words.{HasParts, address_of, version_of}
 use Rattle.heap_model.specs.State.{State}
-use Rattle.heap_model.proofs.Slots.{size_ok}
+use Rattle.lowfat_regions.proofs.Addresses.{size_ok}
 use Rattle.typed_heap.specs.Naming.{nth_slot}
 use Rattle.typed_heap.specs.SlotStates.{state_at}
 use Rattle.typed_heap.proofs.heap.RegionHeap.word.Goals as goal
 use Rattle.typed_heap.proofs.heap.RegionHeap.word.Goals.{After-pack}
 
-packed : (c : After-pack) → IsPacked (c.slot_address-first.result + 16) c.version.result
+packed : (c : After-pack) → HasParts (c.slot_address-first.result + 16) c.version.result
 packed c =
     let small : c.slot_address-first.result + 16 < 2 ^ 40 = omega (arith, c.slot_address-first.ensures.within, c.self.invariant.high) in
     c.law_words.ensures.0 (c.slot_address-first.result + 16) c.version.result small
