@@ -1,0 +1,9 @@
+pub mod Kinds
+pub mod Constants
+pub mod Surroundings
+pub mod Expressions
+pub mod Effects
+pub mod Initialisers
+pub mod Statements
+pub mod Growth
+pub mod Programs
