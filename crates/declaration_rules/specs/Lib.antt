@@ -1,0 +1,15 @@
+pub mod Parts
+pub mod Readers
+pub mod Declarators
+pub mod Storage
+pub mod Specifiers
+pub mod Stores
+pub mod Initialisers
+pub mod Agreement
+pub mod Objects
+pub mod Declarations
+pub mod Statements
+pub mod Definitions
+pub mod Units
+pub mod Lookups
+pub mod Programs
