@@ -23,10 +23,6 @@ abbrev pub with_bits : ℕ → ℕ → ℕ → ℕ → ℕ
 with_bits b w new n =
     n % 2 ^ (8 * b) + 2 ^ (8 * b) * (new % 2 ^ (8 * w) + 2 ^ (8 * w) * (n / 2 ^ (8 * b) / 2 ^ (8 * w)))
 
--- a word as it is when a whole number is stored in it: zero if it holds a pointer
-abbrev pub unmarked : Value → Value
-unmarked v = if v.pointer then zero_word else v
-
 -- the number of w bytes at b of a word, and none if it holds a pointer
 abbrev pub number_in_word : ℕ → ℕ → Value → Option ℕ
 number_in_word b w v = if v.pointer then None else Some (bits_at b w v.bits)

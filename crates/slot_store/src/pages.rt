@@ -90,27 +90,27 @@ impl Pages {
     /// The number of so many bytes of a word, by the number of the first of them in the region, and none where the word
     /// holds a pointer.
     #[inline]
-    pub(crate) fn load(&self, at: usize, width: u32) -> Option<u64>
+    pub(crate) fn load(&self, at: u32, width: u32) -> Option<u64>
         requires place { at / 8 < length self.now }
         requires width { IsWidth width }
         requires inside { at % 8 + width ≤ 8 }
         ensures { result ≡ number_in_word (at % 8) width (slice_index_or self.now (at / 8) zero_word) }
     {
-        self.pages[at / PAGE_BYTES].load(at % PAGE_BYTES, width)
+        self.pages[at as usize / PAGE_BYTES].load(at as usize % PAGE_BYTES, width)
     }
 
     /// Writes so many bytes of a word, by the number of the first of them in the region. Where the word holds a pointer
     /// it becomes zero first.
     #[inline]
-    pub(crate) fn store(&mut self, at: usize, width: u32, number: u64)
+    pub(crate) fn store(&mut self, at: u32, width: u32, number: u64)
         requires place { at / 8 < length self.old }
         requires width { IsWidth width }
         requires inside { at % 8 + width ≤ 8 }
         ensures { let old = slice_index_or self.old (at / 8) zero_word in
             self.new ≡ slice_set self.old (at / 8) (with_number (at % 8) width number old) }
     {
-        let page = &mut self.pages[at / PAGE_BYTES];
-        page.store(at % PAGE_BYTES, width, number);
+        let page = &mut self.pages[at as usize / PAGE_BYTES];
+        page.store(at as usize % PAGE_BYTES, width, number);
     }
 
     /// Makes so many words zero from one on, without a mark.

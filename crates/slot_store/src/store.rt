@@ -22,7 +22,7 @@ const WORD_BYTES: usize = 8;
 #[derive(Drop)]
 pub struct Store {
     region: u32,
-    slot_bytes: usize,
+    slot_bytes: u32,
     made: u32,
     pages: Pages,
 }
@@ -41,11 +41,11 @@ impl Model for Store {
 
 /// The number of a byte in its region.
 #[inline]
-fn byte_number(slot_bytes: usize, slot: u32, at: u32) -> usize
+fn byte_number(slot_bytes: u32, slot: u32, at: u32) -> u32
     requires { slot * slot_bytes + at < 2 ^ 32 }
     ensures { result ≡ slot * slot_bytes + at }
 {
-    slot as usize * slot_bytes + at as usize
+    slot * slot_bytes + at
 }
 
 /// Each slot that was made has the bytes of a slot of the region, and there are no more than the region has.
@@ -63,7 +63,7 @@ impl Store {
     {
         Store {
             region,
-            slot_bytes: size_of_region(region) as usize,
+            slot_bytes: size_of_region(region) as u32,
             made: 0,
             pages: Pages::new(alloc),
         }
@@ -87,7 +87,7 @@ impl Store {
         ensures err { OnErr result (self.new ≡ self.old) }
     {
         let slot = self.made;
-        let words = self.slot_bytes / WORD_BYTES;
+        let words = self.slot_bytes as usize / WORD_BYTES;
         self.pages.make_room((slot as usize + 1) * words)?;
         self.made = slot + 1;
         Ok(slot)
@@ -98,7 +98,7 @@ impl Store {
         requires { slot < made self.old }
         ensures { self.new ≡ with_cells self.old slot (zeros (slot_size self.old)) }
     {
-        let words = self.slot_bytes / WORD_BYTES;
+        let words = self.slot_bytes as usize / WORD_BYTES;
         self.pages.clear(slot as usize * words, words);
     }
 
@@ -110,7 +110,7 @@ impl Store {
         ensures { cells_at (8 * (at / 8)) 8 (cells_of self.now slot) ≡ value_cells result }
     {
         let byte = byte_number(self.slot_bytes, slot, at);
-        self.pages.get(byte / WORD_BYTES)
+        self.pages.get(byte as usize / WORD_BYTES)
     }
 
     /// Writes the aligned piece of eight bytes round a byte, with its mark.
@@ -121,7 +121,7 @@ impl Store {
         ensures { self.new ≡ with_cells_at self.old slot (8 * (at / 8)) (value_cells value) }
     {
         let byte = byte_number(self.slot_bytes, slot, at);
-        self.pages.set(byte / WORD_BYTES, value);
+        self.pages.set(byte as usize / WORD_BYTES, value);
     }
 
     /// The bytes at an offset as a little-endian number (C11 6.2.6.1), and none where one is a part of a pointer word.
