@@ -125,11 +125,11 @@ word_written bs cs ms words at w n small view place inside plain here elsewhere 
     wider k (inl before) = inl (omega arith)
     wider k (inr after) = inr (omega arith)
 
--- a word that becomes zero if it holds a pointer, and then gets other bytes
 -- a word as it is when a whole number is stored in it: zero if it holds a pointer
 abbrev unmarked : Value → Value
 unmarked v = cond v.pointer zero_word v
 
+-- a word that becomes zero if it holds a pointer, and then gets other bytes
 bits-unmarked : (p : Bool) (v : Value) → (cond p zero_word v).bits ≡ cond p 0 v.bits
 bits-unmarked true v = refl
 bits-unmarked false v = refl
