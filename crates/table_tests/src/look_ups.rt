@@ -19,6 +19,8 @@ const VOID: TypeNo = 1;
 
 const CHAR: TypeNo = 2;
 
+const UNSIGNED_CHAR: TypeNo = 3;
+
 const SHORT: TypeNo = 4;
 
 const INT: TypeNo = 6;
@@ -99,7 +101,7 @@ fn add_many(alloc: Global, types: &mut TypeTable) -> Result<(), Fail> {
     let s = named(alloc, types)?;
     let u = either(alloc, types)?;
     extended(alloc, types)?;
-    for of in [CHAR, SHORT, INT, LONG, s, u] {
+    for of in [CHAR, UNSIGNED_CHAR, SHORT, INT, LONG, s, u] {
         let row = array(types, of, 3)?;
         let plane = array(types, row, 2)?;
         array(types, plane, 2)?;
@@ -142,7 +144,7 @@ fn differences_over(types: &TypeTable, table: &Table, elem: TypeNo, size: u64, a
     requires runs { all.now ≡ map with_number (runs_of_object (shape_of types.now elem) size) }
 {
     let mut count: u32 = 0;
-    for want in 1..61 {
+    for want in 1..71 {
         if has_size(types, want) {
             for k in 0..size.saturating_add(2) {
                 count = count.saturating_add(u32::from(!agrees(
@@ -169,7 +171,7 @@ fn differences(
 }
 
 fn all_agree(rt: &impl Abort, alloc: Global, types: &TypeTable, table: &Table) -> Result<(), Fail> {
-    for elem in 1..61 {
+    for elem in 1..71 {
         for size in [24, 49, 60] {
             assert_eq!(rt; differences(alloc, types, table, elem, size)?, 0);
         }
