@@ -1,0 +1,4 @@
+mod Permuting
+mod Moving
+mod Leading
+mod Whole
