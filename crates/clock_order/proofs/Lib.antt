@@ -1,4 +1,6 @@
 mod Permuting
 mod Moving
+mod OnePerPart
 mod Leading
+mod Starting
 mod Whole

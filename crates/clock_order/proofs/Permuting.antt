@@ -1,5 +1,5 @@
 -- Lists that are joined in another order are a rearrangement.
-use Rattle.std.proofs.Common.{◌≡◌, ℕ, zero, suc, ◌+◌, ◌<◌, List, [], ◌∷◌, ◌++◌, length, get_or, IsPermutation, refl, sym, ap, subst, arith, append_assoc}
+use Rattle.std.proofs.Common.{ℕ, zero, suc, ◌<◌, List, [], ◌∷◌, ◌++◌, length, get_or, IsPermutation, sym, subst, arith, append_assoc}
 use Rattle.std.specs.List.{flat_map, AllByRecursion}
 use Rattle.std.specs.List as lists
 use Rattle.std.proofs.Math.ListN.{set}

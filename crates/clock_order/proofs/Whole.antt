@@ -1,12 +1,12 @@
 -- What is merged is the extension by stamps.
-use Rattle.std.proofs.Common.{◌≡◌, ◌≢◌, ℕ, zero, suc, ◌<◌, ◌==◌, Bool, true, false, cond, List, [], ◌∷◌, ◌++◌, length, get_or, filter, IsPermutation, refl, sym, ap, ap₂, ◌∙◌, subst, arith, ◌⊎◌, inl, inr}
+use Rattle.std.proofs.Common.{◌≡◌, ◌≢◌, ℕ, suc, ◌<◌, ◌==◌, Bool, true, false, cond, List, [], ◌∷◌, ◌++◌, length, get_or, filter, IsPermutation, refl, sym, ap, ap₂, ◌∙◌, subst, arith, ◌⊎◌, inl, inr}
 use Rattle.std.specs.List.{All, AllPairs, AllByRecursion}
-use Rattle.std.proofs.lemmas.Bool.{cases_eq, eqb-true, eq-eqb, ne_eqb}
+use Rattle.std.proofs.lemmas.Bool.{cases_eq, eq-eqb, ne_eqb}
 use Rattle.std.proofs.lemmas.List.{append-nil}
 use Rattle.std.proofs.lemmas.List.Elements.{filter-append}
 use Rattle.heap_model.specs.History.{Log}
 use Rattle.heap_model.specs.Legal.{of_region, IsLegal, InRegions}
-use Rattle.heap_model.specs.Order.{Rises, StampsRise, IsMerge}
+use Rattle.heap_model.specs.Order.{StampsRise, IsMerge}
 use Rattle.heap_model.specs.Restricted.{RestrictionsLaw}
 use Rattle.heap_model.specs.Extension.{IsExtension, ExtensionLaw}
 use Rattle.heap_model.proofs.Merge.{all-filter}

@@ -1,5 +1,5 @@
 -- What a merge has done so far, and what is left.
-use Rattle.std.specs.Prelude.{ℕ, ◌≡◌, ◌+◌, ◌<◌, ◌≤◌, ◌==◌, Bool, true, List, [], ◌∷◌, ◌++◌, length, drop, slice_index_or, IsPermutation, count_by}
+use Rattle.std.specs.Prelude.{ℕ, ◌≡◌, ◌<◌, ◌≤◌, ◌==◌, true, List, [], ◌++◌, length, drop, slice_index_or, IsPermutation, count_by}
 use Rattle.std.specs.List.{AllByRecursion, HoldsAt, flat_map}
 use Rattle.std.specs.Ordering.{nat_cmp, ordering_then}
 use Rattle.std.specs.declared.cmp.Ordering.{Ordering}

@@ -88,9 +88,9 @@ fn merged(alloc: Global, parts: &[History]) -> Result<History, AllocError>
     Ok(merged)
 }
 
-/// The entries of all parts in the order of their stamps, and of their regions where stamps are equal. Each part is
-/// the history of a region; each entry is taken once, and is compared with one entry of each of a few other parts (a
-/// binary heap of the parts' next entries).
+/// The entries of all parts in the order of their stamps, and of their regions where stamps are equal. Each part is the
+/// history of a region. On an error the parts are dropped. The entries that come next in their parts stand in a binary
+/// heap, so an entry takes as many comparisons as the logarithm of the count of parts.
 pub fn merge(alloc: Global, parts: Vec<History>) -> Result<History, AllocError>
     requires apart { AllPairs AreApart parts.items }
     requires stamps { All (λ p. StampsRise p.entries) parts.items }

@@ -1,6 +1,7 @@
-use Rattle.std.proofs.Common.{◌≡◌, ◌≤◌, ◌+◌, ◌++◌, ◌∷◌, [], length, heap_items, arith, sym, ap, ◌∙◌, subst}
+use Rattle.std.proofs.Common.{◌≤◌, ◌+◌, ◌++◌, ◌∷◌, [], length, heap_items, arith, ap, ◌∙◌}
 use Rattle.clock_order.specs.Heads.{part_at}
-use Rattle.clock_order.proofs.Leading.{heads-permuted, heads-replaced, heads-rest, part-is, stepped, taken-last, taken-more}
+use Rattle.clock_order.proofs.OnePerPart.{heads-permuted, heads-replaced, heads-rest}
+use Rattle.clock_order.proofs.Leading.{part-is, stepped, taken-last, taken-more}
 use Rattle.clock_order.proofs.merging.advance.Goals as goal
 
 pub returns-in_ok-push-clause-heads : goal.returns-in_ok-push-clause-heads

@@ -1,5 +1,5 @@
-use Rattle.std.proofs.Common.{◌+◌, heap_items, arith}
-use Rattle.clock_order.proofs.Leading.{first-more, first-empty}
+use Rattle.std.proofs.Common.{heap_items, arith}
+use Rattle.clock_order.proofs.Starting.{first-more, first-empty}
 use Rattle.clock_order.proofs.merging.first_heads.Goals as goal
 use Rattle.clock_order.proofs.merging.first_heads.Goals.{then-len-gt0+in_ok-push, else-len-gt0}
 

@@ -3,7 +3,7 @@ use Rattle.clock_order.specs.Parts.{entries_of}
 use Rattle.clock_order.specs.Heads.{left_of, left}
 use Rattle.clock_order.proofs.Permuting.{flat_map-permutes}
 use Rattle.clock_order.proofs.Moving.{moved-permuted, moved-length}
-use Rattle.clock_order.proofs.Leading.{heads-permuted}
+use Rattle.clock_order.proofs.OnePerPart.{heads-permuted}
 use Rattle.clock_order.proofs.merging.merged.Goals as goal
 
 pub advance-requires-clause-heads : goal.advance-requires-clause-heads
