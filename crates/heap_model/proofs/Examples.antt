@@ -1,15 +1,18 @@
 -- What the definitions say of a few calls.
-use Rattle.std.proofs.Common.{◌≡◌, ℕ, ◌+◌, ◌-◌, ◌^◌, pos, negsuc, true, false, List, [], ◌∷◌, map, Some, None, refl}
-use Rattle.lowfat_regions.specs.Regions.{slot_of, slot_in, region_of, size_of, sizes, first_multiple, slots, slot_address, slot_base, class_of}
+use Rattle.std.proofs.Common.{◌≡◌, ℕ, ◌+◌, ◌-◌, ◌^◌, pos, negsuc, true, false, List, [], ◌∷◌, map, take, Some, None, refl, sym, ap, ◌∙◌}
+use Rattle.std.specs.List.{list_any}
+use Rattle.std.proofs.lemmas.Bool.{false≢true}
+use Rattle.std.proofs.lemmas.Option.{same_Some}
+use Rattle.lowfat_regions.specs.Regions.{Slot, slot_of, slot_in, region_of, size_of, sizes, first_multiple, slots, slot_address, slot_base, class_of}
 use Rattle.slot_headers.specs.Words.{address_of, version_of}
 use Rattle.heap_model.specs.Objects.{offset_in}
 use Rattle.heap_model.specs.Reaches.{narrow, inside, may_escape, same_slot, slot_bounds, moved}
 use Rattle.heap_model.specs.Cells.{Number, Byte, Gave, Refused, Loads, parts, zeros, access_outcome, access_report, load_outcome, cells_after_store, without_pointer, put, sign_extension}
-use Rattle.heap_model.specs.Heap.{is_full}
-use Rattle.heap_model.specs.Answers.{answer_by, access, next, offset, slot_at, first_byte}
+use Rattle.heap_model.specs.Heap.{empty, is_full, resting}
+use Rattle.heap_model.specs.Answers.{answer_by, access, next, offset, region, slot_at, first_byte, is_in}
 use Rattle.heap_model.specs.Preference.{Preference}
 use Rattle.heap_model.specs.Forms.{region_for, suits_call}
-use Rattle.heap_model.specs.Legal.{IsLegal, Answers, AllocAnswers}
+use Rattle.heap_model.specs.Legal.{IsLegal, Answers, AllocAnswers, MayPlace, replay}
 use Rattle.heap_model.specs.declared.calls.AccessKind.TheVariants.{I8, U8, I32, I64, Ptr, Word}
 use Rattle.heap_model.specs.declared.calls.Reach.{Reach}
 use Rattle.heap_model.specs.declared.calls.Call.{Call}
@@ -25,26 +28,30 @@ entry n call reply = record { worker = 1; number = n; stamp = n + 1; region = 2;
 abbrev w1 : ℕ
 w1 = 1108101562400
 
+-- a word of the next slot, and one of the next version
 abbrev w2 : ℕ
-w2 = w1 + 2 ^ 40
+w2 = w1 + 48
+
+abbrev w1_again : ℕ
+w1_again = w1 + 2 ^ 40
 
 abbrev whole : Reach
 whole = record { lo = 8589934624; hi = 8589934648 }
 
--- an object is made and freed, and its slot is given out again
-abbrev reused : List Entry
-reused =
+-- an object is made and freed, and its slot rests when the next is made
+abbrev rested : List Entry
+rested =
     entry 0 (Alloc 8 24 false) (Placed w1) ∷ entry 1 (Free w1 false) Done
     ∷ entry 2 (Alloc 8 24 false) (Placed w2) ∷ entry 3 (Load w1 whole I32) (Report Freed) ∷ []
 
-reused-legal : (preferred : Preference) → IsLegal preferred reused
+rested-legal : (preferred : Preference) → IsLegal preferred rested
 unfolding answer_by access next offset slot_at first_byte Answers AllocAnswers region_for is_full slot_of slot_in region_of size_of sizes first_multiple slots slot_address address_of version_of offset_in class_of
-reused-legal preferred = (
-  record { fits = refl; region_is = refl; answers = (refl, record { slot = record { region = 2; number = 0 }; slot_is = refl; of_region = refl; address = refl; no_live = refl; version = refl }) },
+rested-legal preferred = (
+  record { fits = refl; region_is = refl; answers = (refl, record { slot = record { region = 2; number = 0 }; slot_is = refl; of_region = refl; address = refl; no_live = refl; rested = refl; version = refl }) },
   (
     record { fits = refl; region_is = refl; answers = refl },
     (
-      record { fits = refl; region_is = refl; answers = (refl, record { slot = record { region = 2; number = 0 }; slot_is = refl; of_region = refl; address = refl; no_live = refl; version = refl }) },
+      record { fits = refl; region_is = refl; answers = (refl, record { slot = record { region = 2; number = 1 }; slot_is = refl; of_region = refl; address = refl; no_live = refl; rested = refl; version = refl }) },
       (
         record { fits = refl; region_is = refl; answers = refl },
         tt,
@@ -73,6 +80,14 @@ null-pointer = refl
 signed-byte : access_outcome {P = ℕ} true 1 I8 Loads (Byte 0 ∷ Byte 255 ∷ []) ≡ Gave (Number (2 ^ 64 - 1))
 unfolding access_outcome access_report load_outcome sign_extension
 signed-byte = refl
+
+-- the slot that rests may not be taken, though no object lives in it
+not-rested : (m : MayPlace (replay empty (take 2 rested)) 2 w1_again) → ⊥
+unfolding next slot_at slot_of slot_in region_of size_of sizes first_multiple slots slot_address address_of version_of
+not-rested m =
+    let first : ◌≡◌ {A = Slot} (record { region = 2; number = 0 }) m.slot = same_Some _ _ m.slot_is in
+    let rests : true ≡ list_any (is_in m.slot) (resting region 2 (replay empty (take 2 rested))) = ap (λ s. list_any (is_in s) (resting region 2 (replay empty (take 2 rested)))) first in
+    false≢true (sym (rests ∙ m.rested))
 
 -- ---- regions
 
@@ -106,7 +121,7 @@ unfolding moved address_of version_of
 back-and-forth = refl
 
 -- two versions of one slot are two, and an object is followed by the end of its slot
-one-slot : (same_slot w1 (w1 + 31) ≡ true) × (same_slot w1 w2 ≡ false) × (same_slot w1 (w1 + 32) ≡ false) × (same_slot 0 0 ≡ false)
+one-slot : (same_slot w1 (w1 + 31) ≡ true) × (same_slot w1 w1_again ≡ false) × (same_slot w1 (w1 + 32) ≡ false) × (same_slot 0 0 ≡ false)
 unfolding same_slot slot_of slot_in region_of size_of sizes first_multiple slots address_of version_of
 one-slot = (refl, refl, refl, refl)
 

@@ -6,6 +6,7 @@ pub mod Counts
 pub mod Apart
 pub mod Merge
 pub mod Examples
+pub mod Resting
 pub mod State
 pub mod Push
 pub mod Performed

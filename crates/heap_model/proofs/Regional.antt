@@ -1,16 +1,17 @@
 -- What a call does in its region, and that it does nothing elsewhere.
-use Rattle.std.proofs.Common.{◌≡◌, ℕ, ◌+◌, true, Option, Some, None, refl, ap, sym, ◌∙◌, arith, unwrap_or, ◌↔◌}
+use Rattle.std.proofs.Common.{◌≡◌, ℕ, ◌+◌, true, take, Option, Some, None, refl, ap, sym, ◌∙◌, arith, unwrap_or, ◌↔◌}
 use Rattle.std.proofs.lemmas.Bool.{eqb-true, eq-eqb, ne_eqb, and_parts}
 use Rattle.std.proofs.lemmas.Option.{same_Some, none-some}
+use Rattle.std.specs.List.{list_any}
 use Rattle.lowfat_regions.specs.Regions.{Slot, slot_of, slot_in, region_of}
 use Rattle.slot_headers.specs.Words.{address_of, version_of}
 use Rattle.heap_model.specs.Cells.{Act, Loads, Stores, Adds}
-use Rattle.heap_model.specs.Heap.{part, live_body, has_dead, is_full, is_of}
+use Rattle.heap_model.specs.Heap.{part, live_body, has_dead, is_full, is_of, rest, resting}
 use Rattle.heap_model.specs.Answers.{Name, region, Words, is_in, is_at, names, slot_at, datum, reply, access, answer_by, Live, Dead, live_in, dead_in, answer, new_object, next}
 use Rattle.heap_model.specs.Preference.{Preference}
 use Rattle.heap_model.specs.Forms.{region_or_one, region_for}
 use Rattle.heap_model.specs.Legal.{MayPlace, AllocAnswers, Answers}
-use Rattle.heap_model.proofs.Lists.{Within, Apart}
+use Rattle.heap_model.proofs.Lists.{filter-within, Within, Apart}
 use Rattle.heap_model.proofs.Parts as parts
 use Rattle.heap_model.specs.declared.calls.AccessKind.{AccessKind}
 use Rattle.heap_model.specs.declared.calls.Reach.{Reach}
@@ -85,6 +86,9 @@ module _ (r : ℕ) (h : Words) where
   in-within : (s : Slot) → s.region ≡ r → Within (is_in s) (is_of region r)
   in-within s e n is = eq-eqb _ _ (eqb-true _ _ (and_parts _ _ is).0 ∙ e)
 
+  resting-within : resting region r (within r h) ≡ resting region r h
+  resting-within = ap (take (rest r)) (filter-within (is_of region r) (is_of region r) (λ n e. e) h.dead)
+
   pub MayPlace-within : (word : ℕ) → MayPlace (within r h) r word ↔ MayPlace h r word
   MayPlace-within word = (
     λ m. record {
@@ -93,6 +97,7 @@ module _ (r : ℕ) (h : Words) where
       of_region = m.of_region;
       address = m.address;
       no_live = sym (parts.live_count-part (is_in m.slot) (is_of region r) h (in-within m.slot m.of_region)) ∙ m.no_live;
+      rested = ap (list_any (is_in m.slot)) (sym resting-within) ∙ m.rested;
       version = m.version ∙ ap (λ n. 1 + n) (parts.made_count-part (is_in m.slot) (is_of region r) h (in-within m.slot m.of_region));
     },
     λ m. record {
@@ -101,6 +106,7 @@ module _ (r : ℕ) (h : Words) where
       of_region = m.of_region;
       address = m.address;
       no_live = parts.live_count-part (is_in m.slot) (is_of region r) h (in-within m.slot m.of_region) ∙ m.no_live;
+      rested = ap (list_any (is_in m.slot)) resting-within ∙ m.rested;
       version = m.version ∙ ap (λ n. 1 + n) (sym (parts.made_count-part (is_in m.slot) (is_of region r) h (in-within m.slot m.of_region)));
     },
   )

@@ -1,21 +1,23 @@
 -- What a region's heap answers by its places is what the heap answers that it stands for, and goes on to stand for the next one.
 use Rattle.std.proofs.Common.{◌≡◌, ℕ, ◌+◌, ◌<◌, ◌≤◌, Bool, true, false, not, cond, ◌&&◌, ◌||◌, ◌==◌, List, [], ◌∷◌, ◌++◌, map, length, filter, find, Option, Some, None, option_map, is_some, refl, ap, sym, ◌∙◌, subst, arith}
 use Rattle.std.specs.List.{list_any}
-use Rattle.std.specs.Prelude.{nat_lt}
-use Rattle.lowfat_regions.specs.Regions.{Slot, is_slot, slot_of}
+use Rattle.std.specs.Prelude.{nat_lt, reverse}
+use Rattle.lowfat_regions.specs.Regions.{Slot, is_slot, slot_of, slots}
 use Rattle.slot_headers.specs.Words.{version_of}
 use Rattle.heap_model.specs.Cells.{Cell}
-use Rattle.heap_model.specs.Heap.{Body, Object, live_body, has_dead, live_count, made_count, dead_count, is_of, with_new, with_dead, with_cells, with_cells_if}
+use Rattle.heap_model.specs.Heap.{Body, Object, live_body, has_dead, live_count, made_count, dead_count, is_of, resting, with_new, with_dead, with_cells, with_cells_if}
 use Rattle.heap_model.specs.Answers.{Name, region, Words, is_in, is_at, live_in, dead_in, answer, answer_by}
 use Rattle.heap_model.specs.Preference.{Preference}
-use Rattle.heap_model.specs.State.{SlotState, State, state_of, live_at, dead_at, at_slot, live_by, dead_by, StandsFor, ChangesSlot, one_if, live_objects, all_versions}
+use Rattle.heap_model.specs.State.{SlotState, State, state_of, live_at, dead_at, at_slot, live_by, dead_by, slot_number, StandsFor, ChangesSlot, one_if, live_objects, all_versions}
 use Rattle.heap_model.specs.declared.calls.Call.{Call}
 use Rattle.std.proofs.lemmas.Bool.{and_parts, and_from, or_right, lt-ltb, eqb-true, eq-eqb}
 use Rattle.std.proofs.lemmas.Option.{none-some}
 use Rattle.std.proofs.lemmas.Bool.Decides.{nat_tests}
 use Rattle.heap_model.proofs.Lists.{Within, filter-comm, filter-within, filter-apart, length-filter_split, length-filter_within}
 use Rattle.heap_model.proofs.Counts.{live_count-made, made_count-died, live_count-cells}
+use Rattle.free_slots.specs.Slots.{last_resting}
 use Rattle.heap_model.proofs.Apart.{is_slot-is}
+use Rattle.heap_model.proofs.Resting.{at-rest-died}
 
 find-none : {X : Type 0} (p : X → Bool) → ((x : X) → p x ≡ false) → (xs : List X) → find p xs ≡ None
 find-none p none [] = refl
@@ -192,8 +194,8 @@ module _ (st now : State) (h : Words) (k : StandsFor st h) (s : Slot) (home : s.
         go true e = ap (λ p. p.versions) (state-same st t s e)
         go false e = refl
 
-    pub stands-cells : StandsFor now (with_cells (is_at (Some s) w) f h)
-    stands-cells = record {
+    pub stands-cells : now.resting ≡ st.resting → StandsFor now (with_cells (is_at (Some s) w) f h)
+    stands-cells rested = record {
       live = λ t v.
           find-with_cells_if (is_at (Some t) v) (is_at (Some s) w) f (is_slot t s && (v == w)) (at-other s t v w) h.live
           ∙ ap (option_map (recell (is_slot t s && (v == w)) f)) (k.live t v)
@@ -208,6 +210,7 @@ module _ (st now : State) (h : Words) (k : StandsFor st h) (s : Slot) (home : s.
       region_made =
           ap (λ n. n + dead_count (is_of region now.region) h) (live_count-cells (is_of region now.region) h (is_at (Some s) w) f)
           ∙ ap (λ r. made_count (is_of region r) h) c.region_is ∙ k.region_made ∙ omega (arith, c.made);
+      at_rest = rested ∙ k.at_rest ∙ ap (λ r. reverse (map slot_number (resting region r h))) (sym c.region_is);
     }
 
   -- ---- a death
@@ -251,8 +254,8 @@ module _ (st now : State) (h : Words) (k : StandsFor st h) (s : Slot) (home : s.
             let none : length (filter (λ o. is_in t o.name) (filter (λ o. is_at (Some s) w o.name) h.live)) ≡ 0 = ap length (filter-apart (λ o. is_at (Some s) w o.name) (λ o. is_in t o.name) apart h.live) in
             omega (arith, split (is_in t), none, k.slot_live t)
 
-    pub stands-died : 0 < w → StandsFor now (with_dead (is_at (Some s) w) h)
-    stands-died some = record {
+    pub stands-died : 0 < w → now.resting ≡ last_resting (slots st.region) (st.resting ++ s.number ∷ []) → StandsFor now (with_dead (is_at (Some s) w) h)
+    stands-died some laid = record {
       live = λ t v.
           ap (option_map (λ o. o.body)) (find-without (λ o. is_at (Some t) v o.name) (λ o. is_at (Some s) w o.name) (is_slot t s && (v == w)) (λ o e. at-other s t v w o.name e) h.live)
           ∙ option_map-cond (λ o. o.body) (is_slot t s && (v == w)) (find (λ o. is_at (Some t) v o.name) h.live)
@@ -273,6 +276,11 @@ module _ (st now : State) (h : Words) (k : StandsFor st h) (s : Slot) (home : s.
           let before : live_count (is_of region now.region) h ≡ live_objects st = ap (λ r. live_count (is_of region r) h) c.region_is ∙ k.region_live in
           omega (arith, split (is_of region now.region), here-in (is_of region now.region) inside, before, c.live, one-if-body);
       region_made = made_count-died (is_of region now.region) h (is_at (Some s) w) ∙ ap (λ r. made_count (is_of region r) h) c.region_is ∙ k.region_made ∙ omega (arith, c.made);
+      at_rest =
+          let before : st.resting ≡ reverse (map slot_number (resting region s.region h)) = k.at_rest ∙ ap (λ r. reverse (map slot_number (resting region r h))) (sym home) in
+          laid ∙ ap (λ r. last_resting (slots r) (st.resting ++ s.number ∷ [])) (sym home)
+          ∙ at-rest-died h s w here-count st.resting before
+          ∙ ap (λ r. reverse (map slot_number (resting region r (with_dead (is_at (Some s) w) h)))) (home ∙ sym c.region_is);
     }
 
 -- ---- an allocation
@@ -339,8 +347,8 @@ module _ (st now : State) (h : Words) (k : StandsFor st h) (o : Object Name ℕ)
   region-one : one_if (is_of region now.region o.name) ≡ 1
   region-one = ap one_if (eq-eqb _ _ (home ∙ sym c.region_is))
 
-  pub stands-made : StandsFor now (with_new o h)
-  stands-made = record {
+  pub stands-made : now.resting ≡ st.resting → StandsFor now (with_new o h)
+  stands-made rested = record {
     live = λ t v. ap (option_map (λ o. o.body)) (find-push (λ o. is_at (Some t) v o.name) h.live o)
         ∙ (λ i. option_map (λ o. o.body) (cond (is_some (find (λ o. is_at (Some t) v o.name) h.live)) (find (λ o. is_at (Some t) v o.name) h.live) (cond (in-slot t i && (o.name.version == v)) (Some o) None)))
         ∙ live-made-at (state_of st t) v (is_slot t o.name.slot) (state-same st t o.name.slot) (find (λ o. is_at (Some t) v o.name) h.live) (k.live t v)
@@ -354,4 +362,5 @@ module _ (st now : State) (h : Words) (k : StandsFor st h) (o : Object Name ℕ)
     region_made =
         let before : made_count (is_of region now.region) h ≡ all_versions st = ap (λ r. made_count (is_of region r) h) c.region_is ∙ k.region_made in
         omega (arith, made-made (is_of region now.region), region-one, before, c.made);
+    at_rest = rested ∙ k.at_rest ∙ ap (λ r. reverse (map slot_number (resting region r h))) (sym c.region_is);
   }

@@ -1,10 +1,11 @@
 -- Heaps of objects. N is the type of their names and P that of pointer values.
-use Rattle.std.specs.Prelude.{ℕ, ◌+◌, Bool, true, false, not, ◌||◌, ◌==◌, if◌then◌else◌, List, [], ◌∷◌, ◌++◌, map, length, filter, find, ◌&&◌, option_map, Option, Some, None}
+use Rattle.std.specs.Prelude.{ℕ, ◌+◌, min, Bool, true, false, not, ◌||◌, ◌==◌, if◌then◌else◌, List, [], ◌∷◌, ◌++◌, map, length, filter, find, take, ◌&&◌, option_map, Option, Some, None}
 use Rattle.std.specs.Bool.{beq}
 use Rattle.std.specs.List.{list_any}
 use Rattle.heap_model.specs.Cells.{Cell, Act, Outcome, Did, Refused, access_outcome}
 use Rattle.heap_model.specs.declared.calls.AccessKind.{AccessKind}
 use Rattle.heap_model.specs.declared.calls.ReportKind.TheVariants.{Free, BadFree, DoubleFree}
+use Rattle.free_slots.specs.Slots.{rest_limit}
 use Rattle.lowfat_regions.specs.Regions.{slots}
 use Rattle.heap_model.specs.Objects.{max_objects}
 
@@ -45,12 +46,23 @@ dead_count is h = length (filter is h.dead)
 abbrev pub made_count : {N P : Type 0} → (N → Bool) → Heap N P → ℕ
 made_count is h = live_count is h + dead_count is h
 
--- a region has no room: its live objects are as many as its slots, or as many objects were made as versions can tell apart
 abbrev pub is_of : {N : Type 0} → (N → ℕ) → ℕ → N → Bool
 is_of region r n = region n == r
 
+-- how many slots of a region rest, where as many objects or more died in it
+abbrev pub rest : ℕ → ℕ
+rest r = rest_limit (slots r)
+
+-- the names of the objects whose slots rest: of those that died last in a region, the last to die first
+abbrev pub resting : {N P : Type 0} → (N → ℕ) → ℕ → Heap N P → List N
+resting region r h = take (rest r) (filter (is_of region r) h.dead)
+
+-- a region has no room: its live objects and its resting slots are as many as its slots, or as many objects were made as
+-- versions can tell apart
 unfoldable pub is_full : {N P : Type 0} → (N → ℕ) → Heap N P → ℕ → Bool
-is_full region h r = (live_count (is_of region r) h == slots r) || (made_count (is_of region r) h == max_objects)
+is_full region h r =
+    (live_count (is_of region r) h + min (rest r) (dead_count (is_of region r) h) == slots r)
+    || (made_count (is_of region r) h == max_objects)
 
 -- ---- what is done at one object, if there is a live one that is named
 

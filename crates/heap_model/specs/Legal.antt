@@ -1,8 +1,9 @@
 -- Legal histories.
 use Rattle.std.specs.Prelude.{ℕ, ◌≡◌, ◌+◌, suc, ◌≤◌, Bool, true, false, ◌&&◌, ◌==◌, nat_le, List, [], ◌∷◌, length, filter, Some}
+use Rattle.std.specs.List.{list_any}
 use Rattle.lowfat_regions.specs.Regions.{last_region, header_bytes, Slot, slot_of, slot_address}
 use Rattle.slot_headers.specs.Words.{address_of, version_of}
-use Rattle.heap_model.specs.Heap.{Object, empty, live_count, made_count, is_full}
+use Rattle.heap_model.specs.Heap.{Object, empty, live_count, made_count, resting, is_full}
 use Rattle.heap_model.specs.Answers.{Name, region, Words, is_in, is_at, answer, next}
 use Rattle.heap_model.specs.Preference.{Preference}
 use Rattle.heap_model.specs.Forms.{region_for, fits_call}
@@ -12,13 +13,15 @@ use Rattle.heap_model.specs.declared.calls.Reply.{Reply}
 use Rattle.heap_model.specs.declared.calls.Reply.TheVariants.{Placed, NoSlot}
 use Rattle.heap_model.specs.declared.calls.Entry.{Entry}
 
--- an object may be placed by this word
+-- An object may be placed by this word: at the address of a slot of the region, in which no object lives and which does not
+-- rest, with the version after those of the slot's objects.
 pub record MayPlace (h : Words) (r word : ℕ) : Type 0 where
   pub slot : Slot
   pub slot_is : slot_of (address_of word) ≡ Some slot
   pub of_region : slot.region ≡ r
   pub address : address_of word ≡ slot_address slot + header_bytes
   pub no_live : live_count (is_in slot) h ≡ 0
+  pub rested : list_any (is_in slot) (resting region r h) ≡ false
   pub version : version_of word ≡ 1 + made_count (is_in slot) h
 
 -- the heap may give this reply to an allocation in a region

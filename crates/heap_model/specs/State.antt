@@ -1,9 +1,9 @@
 -- What the heap of one region keeps, slot by slot, and the heaps of objects that it stands for.
-use Rattle.std.specs.Prelude.{ℕ, ◌≡◌, ◌+◌, Bool, false, ◌&&◌, ◌||◌, ◌==◌, nat_lt, cond, if◌then◌else◌, List, get_or, sum_by, Option, Some, None, is_some, is_none}
+use Rattle.std.specs.Prelude.{ℕ, ◌≡◌, ◌+◌, Bool, false, ◌&&◌, ◌||◌, ◌==◌, nat_lt, cond, if◌then◌else◌, List, map, reverse, get_or, sum_by, Option, Some, None, is_some, is_none}
 use Rattle.lowfat_regions.specs.Regions.{Slot, is_slot, slot_of}
 use Rattle.slot_headers.specs.Words.{version_of}
-use Rattle.heap_model.specs.Heap.{Body, live_body, has_dead, live_count, made_count, is_of}
-use Rattle.heap_model.specs.Answers.{region, Words, is_in, is_at, Live, Dead}
+use Rattle.heap_model.specs.Heap.{Body, live_body, has_dead, live_count, made_count, is_of, resting}
+use Rattle.heap_model.specs.Answers.{Name, region, Words, is_in, is_at, Live, Dead}
 
 -- of one slot: how many objects were made in it, which is the last one's version, and that one while it lives
 pub record SlotState : Type 0 where
@@ -13,10 +13,11 @@ pub record SlotState : Type 0 where
 abbrev pub fresh_slot : SlotState
 fresh_slot = record { versions = 0; body = None }
 
--- the states of the slots from 0 on
+-- the states of the slots from 0 on, and the numbers of the slots at rest in the order in which they were freed
 pub record State : Type 0 where
   pub region : ℕ
   pub states : List SlotState
+  pub resting : List ℕ
 
 abbrev pub state_of : State → Slot → SlotState
 state_of st t = if t.region == st.region then get_or st.states t.number fresh_slot else fresh_slot
@@ -48,7 +49,11 @@ live_objects st = sum_by (λ p. one_if (is_some p.body)) st.states
 abbrev pub all_versions : State → ℕ
 all_versions st = sum_by (λ p. p.versions) st.states
 
--- the state stands for a heap of objects, of which it knows no makers and of the dead nothing but their versions
+-- the number of an object's slot
+abbrev pub slot_number : Name → ℕ
+slot_number n = n.slot.number
+
+-- the state stands for a heap of objects, of which it knows no makers, and of the dead their versions and which died last
 pub record StandsFor (st : State) (h : Words) : Type 0 where
   pub live : (t : Slot) (v : ℕ) → live_body (is_at (Some t) v) h ≡ live_at (state_of st t) v
   pub dead : (t : Slot) (v : ℕ) → has_dead (is_at (Some t) v) h ≡ dead_at (state_of st t) v
@@ -56,6 +61,7 @@ pub record StandsFor (st : State) (h : Words) : Type 0 where
   pub slot_made : (t : Slot) → made_count (is_in t) h ≡ (state_of st t).versions
   pub region_live : live_count (is_of region st.region) h ≡ live_objects st
   pub region_made : made_count (is_of region st.region) h ≡ all_versions st
+  pub at_rest : st.resting ≡ reverse (map slot_number (resting region st.region h))
 
 -- ---- the next state
 

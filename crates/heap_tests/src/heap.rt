@@ -24,12 +24,27 @@ const LONG: TypeNo = 8;
 /// The first byte of the first object of region 1, past its header.
 const FIRST: u64 = 0x1_0000_0010;
 
-/// The words of the first, the second and the third object in that slot.
+/// The words of the first and the second object in that slot, and of the first one in the next slot.
 const A: u64 = 0x101_0000_0010;
 
 const B: u64 = 0x201_0000_0010;
 
-const C: u64 = 0x301_0000_0010;
+const NEXT: u64 = 0x101_0000_0030;
+
+/// The word of the first object in the first of the 16 slots of region 27, how many bytes a slot has there, and an object
+/// for it.
+const LARGE: u64 = 0x11b_0000_0010;
+
+const LARGE_SLOT: u64 = 0x10_0000;
+
+const LARGE_OBJECT: Call = Call::Alloc {
+    elem: INT,
+    size: 262_144,
+    fixed: false,
+};
+
+/// From the words of a version to those of the next.
+const NEXT_VERSION: u64 = 0x100_0000_0000;
 
 /// A word into region 3.
 const FAR: u64 = 0x103_0000_0000;
@@ -38,6 +53,11 @@ const FAR: u64 = 0x103_0000_0000;
 const WHOLE: Reach = Reach {
     lo: FIRST,
     hi: FIRST + 8,
+};
+
+const WHOLE_NEXT: Reach = Reach {
+    lo: FIRST + 32,
+    hi: FIRST + 40,
 };
 
 const SECOND_HALF: Reach = Reach {
@@ -196,21 +216,21 @@ impl Region {
     }
 }
 
-/// An object that is used after its end is reported, though its slot was given out again.
+/// An object that is used after its end is reported. Its slot rests, and the next object lies in another.
 static USE_AFTER_FREE: [(Call, Reply); 13] = [
     (alloc!(INT, 8, false), Reply::Placed(A)),
     (free!(A), Reply::Done),
-    (alloc!(INT, 8, false), Reply::Placed(B)),
-    (check!(B, INT), Reply::Found(WHOLE)),
-    (store!(B, WHOLE, I32, 5, false), Reply::Done),
+    (alloc!(INT, 8, false), Reply::Placed(NEXT)),
+    (check!(NEXT, INT), Reply::Found(WHOLE_NEXT)),
+    (store!(NEXT, WHOLE_NEXT, I32, 5, false), Reply::Done),
     (check!(A, INT), DEAD),
     (load!(A, WHOLE, I32), DEAD),
     (store!(A, WHOLE, I32, 7, false), DEAD),
-    (load!(B, WHOLE, I32), value!(5, false)),
+    (load!(NEXT, WHOLE_NEXT, I32), value!(5, false)),
     (free!(A), DOUBLE_FREE),
-    (free!(B), Reply::Done),
-    (free!(B), DOUBLE_FREE),
-    (alloc!(INT, 8, false), Reply::Placed(C)),
+    (free!(NEXT), Reply::Done),
+    (free!(NEXT), DOUBLE_FREE),
+    (alloc!(INT, 8, false), Reply::Placed(A + 64)),
 ];
 
 /// At the end of the reach and of the object, one before and one past it; alignment; two causes together; frees.
@@ -272,8 +292,8 @@ static NUMBERS: [(Call, Reply); 16] = [
     (check!(A + 3, LONG), Reply::Found(WHOLE)),
     (check!(FIRST, LONG), NULL),
     (Call::Free { p: A, fixed: true }, Reply::Done),
-    (alloc!(INT, 8, false), Reply::Placed(B)),
-    (check!(B + 2, INT), Reply::Report(ReportKind::WrongType)),
+    (alloc!(INT, 8, false), Reply::Placed(NEXT)),
+    (check!(NEXT + 2, INT), Reply::Report(ReportKind::WrongType)),
 ];
 
 /// How a new heap answered calls: the index of the first whose reply is another, and its objects behind them.
@@ -322,14 +342,18 @@ fn an_object_of_24_bytes_lies_in_region_2(rt: HostRuntime) -> Result<(), Fail> {
     Ok(())
 }
 
-/// The words of the third and the fifth slot of region 1, with their first and second version.
-static GIVEN_BACK: [(Call, Reply); 6] = [
+/// In a full region there is no slot for a further object, also when one was given back, which rests.
+static FULL: [(Call, Reply); 3] = [
     (alloc!(INT, 0, false), Reply::NoSlot),
-    (free!(A + 128), Reply::Done),
-    (free!(A + 64), Reply::Done),
-    (alloc!(INT, 4, false), Reply::Placed(B + 64)),
-    (alloc!(INT, 4, false), Reply::Placed(B + 128)),
-    (alloc!(INT, 4, false), Reply::NoSlot),
+    (free!(A + 32 * 65_535), Reply::Done),
+    (alloc!(INT, 0, false), Reply::NoSlot),
+];
+
+/// Where all objects died, the last 64 slots rest, and of the others the one given back last is the next.
+static EMPTIED: [(Call, Reply); 3] = [
+    (alloc!(INT, 4, false), Reply::Placed(B + 32 * 65_470)),
+    (alloc!(INT, 4, false), Reply::Placed(B + 32 * 65_469)),
+    (free!(A + 32 * 65_470), DOUBLE_FREE),
 ];
 
 /// How many objects of 15 bytes find a slot in turn, each in the next.
@@ -342,25 +366,124 @@ fn count_placements(region: &mut Region) -> Result<u64, AllocError> {
     Ok(70_000)
 }
 
-/// How a heap of region 1 answers calls once it is full, and how many objects made it so.
-fn asked_when_full(alloc: Global, steps: &[(Call, Reply)]) -> Result<(u64, Outcome), AllocError> {
+/// How many of them are freed in turn.
+fn count_frees(region: &mut Region) -> Result<u64, AllocError> {
+    for slot in 0..70_000u64 {
+        if region.ask(&free!(A + 32 * slot))? != Some(Reply::Done) {
+            return Ok(slot);
+        }
+    }
+    Ok(70_000)
+}
+
+/// How many objects filled a heap of region 1 and were freed again, and how it answered calls between and behind.
+fn filled_and_emptied(
+    alloc: Global,
+    full: &[(Call, Reply)],
+    emptied: &[(Call, Reply)],
+) -> Result<(u64, u64, Option<usize>, Outcome), AllocError> {
     let mut region = Region::new(alloc, 1)?;
     let placed = count_placements(&mut region)?;
-    let other = region.first_other(steps)?;
+    let other = region.first_other(full)?;
+    let freed = count_frees(&mut region)?;
     let outcome = Outcome {
-        other,
+        other: region.first_other(emptied)?,
         live: region.heap.live(),
         made: region.heap.made(),
     };
-    Ok((placed, outcome))
+    Ok((placed, freed, other, outcome))
 }
 
 #[test]
-fn a_region_is_full_with_all_its_slots(rt: HostRuntime) -> Result<(), Fail> {
-    let (placed, outcome) = asked_when_full(rt.alloc(), &GIVEN_BACK)?;
+fn a_region_is_filled_and_emptied(rt: HostRuntime) -> Result<(), Fail> {
+    let (placed, freed, other, outcome) = filled_and_emptied(rt.alloc(), &FULL, &EMPTIED)?;
     assert_eq!(rt; placed, 65_536);
-    // the slot that was given back last is the next
-    assert_eq!(rt; outcome, as_wanted(65_536, 65_538));
+    assert_eq!(rt; freed, 65_535);
+    assert_eq!(rt; other, None);
+    assert_eq!(rt; outcome, as_wanted(2, 65_538));
+    Ok(())
+}
+
+macro_rules! placed {
+    ($slot:expr) => {
+        (LARGE_OBJECT, Reply::Placed(LARGE + $slot * LARGE_SLOT))
+    };
+}
+
+macro_rules! placed_again {
+    ($slot:expr) => {
+        (
+            LARGE_OBJECT,
+            Reply::Placed(LARGE + $slot * LARGE_SLOT + NEXT_VERSION),
+        )
+    };
+}
+
+macro_rules! freed {
+    ($slot:expr) => {
+        (free!(LARGE + $slot * LARGE_SLOT), Reply::Done)
+    };
+}
+
+/// Sixteen slots are filled, emptied and filled again, with eight objects, while eight slots rest. One more that is freed
+/// lets the slot that rested longest be taken.
+static SIXTEEN_SLOTS: [(Call, Reply); 45] = [
+    placed!(0),
+    placed!(1),
+    placed!(2),
+    placed!(3),
+    placed!(4),
+    placed!(5),
+    placed!(6),
+    placed!(7),
+    placed!(8),
+    placed!(9),
+    placed!(10),
+    placed!(11),
+    placed!(12),
+    placed!(13),
+    placed!(14),
+    placed!(15),
+    (LARGE_OBJECT, Reply::NoSlot),
+    freed!(0),
+    freed!(1),
+    freed!(2),
+    freed!(3),
+    freed!(4),
+    freed!(5),
+    freed!(6),
+    freed!(7),
+    freed!(8),
+    freed!(9),
+    freed!(10),
+    freed!(11),
+    freed!(12),
+    freed!(13),
+    freed!(14),
+    freed!(15),
+    placed_again!(7),
+    placed_again!(6),
+    placed_again!(5),
+    placed_again!(4),
+    placed_again!(3),
+    placed_again!(2),
+    placed_again!(1),
+    placed_again!(0),
+    (LARGE_OBJECT, Reply::NoSlot),
+    (free!(LARGE + NEXT_VERSION), Reply::Done),
+    placed_again!(8),
+    (LARGE_OBJECT, Reply::NoSlot),
+];
+
+#[test]
+fn freed_slots_rest(rt: HostRuntime) -> Result<(), Fail> {
+    let mut region = Region::new(rt.alloc(), 27)?;
+    let other = region.first_other(&SIXTEEN_SLOTS)?;
+    let live = region.heap.live();
+    let made = region.heap.made();
+    assert_eq!(rt; other, None);
+    assert_eq!(rt; live, 8);
+    assert_eq!(rt; made, 25);
     Ok(())
 }
 

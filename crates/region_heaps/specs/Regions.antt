@@ -12,7 +12,7 @@ use Rattle.heap_model.specs.declared.calls.Reply.{Reply}
 use Rattle.typed_heap.specs.Takes.{KnowsElements}
 
 abbrev pub no_heap : State
-no_heap = record { region = 0; states = [] }
+no_heap = record { region = 0; states = []; resting = [] }
 
 -- the heap of a region
 abbrev pub heap_of : List State → ℕ → State

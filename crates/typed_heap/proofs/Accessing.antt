@@ -171,17 +171,17 @@ gives-sign_extension kind number n below = go kind number (ap (sign_extension ki
 
 module _ (st : State) (h : Words) (stands : StandsFor st h) (p : ℕ) (reach : Reach) (kind : AccessKind) (n k bits : ℕ) (at : IsAccess st p reach kind n k) where
   pub cells_after_store-stands : StandsFor
-      (record { region = st.region; states = set st.states n (with_cells_of (state_at st.states n) at.named.object (put k (bytes (width kind) bits) (without_pointer k at.named.object.cells))) })
+      (record { region = st.region; states = set st.states n (with_cells_of (state_at st.states n) at.named.object (put k (bytes (width kind) bits) (without_pointer k at.named.object.cells))); resting = st.resting })
       (after_access p reach kind (Stores (Number bits)) h)
   unfolding access_cells cells_after_store
   cells_after_store-stands =
       let o = at.named.object in
-      let now : State = record { region = st.region; states = set st.states n (with_cells_of (state_at st.states n) o (put k (bytes (width kind) bits) (without_pointer k o.cells))) } in
+      let now : State = record { region = st.region; states = set st.states n (with_cells_of (state_at st.states n) o (put k (bytes (width kind) bits) (without_pointer k o.cells))); resting = st.resting } in
       let slot = nth_slot st n in
       let changed : ChangesSlot st now slot (with_cells_of (state_of st slot) o (put (offset reach.lo p) (bytes (width kind) bits) (without_pointer (offset reach.lo p) o.cells)))
       = subst (λ (j : ℕ). ChangesSlot st now slot (with_cells_of (state_of st slot) o (put j (bytes (width kind) bits) (without_pointer j o.cells)))) at.offset_is
       (subst (λ (q : SlotState). ChangesSlot st now slot (with_cells_of q o (put k (bytes (width kind) bits) (without_pointer k o.cells)))) (sym (here st n))
-      (changed-set st n (with_cells_of (state_at st.states n) o (put k (bytes (width kind) bits) (without_pointer k o.cells))) at.named.at.taken)) in
+      (changed-set st st.resting n (with_cells_of (state_at st.states n) o (put k (bytes (width kind) bits) (without_pointer k o.cells))) at.named.at.taken)) in
       let found : live_at (state_of st slot) (version_of p) ≡ Some o = ap (λ q. live_at q (version_of p)) (here st n) ∙ ap (λ b. cond b (state_at st.states n).body None) (eq-eqb _ _ at.named.version) ∙ at.named.body in
       subst (λ (s : Option Slot). StandsFor now (with_cells (is_at s (version_of p)) (access_cells (offset reach.lo p) kind (Stores (Number bits))) h)) (sym at.named.at.slot)
-      (stands-cells st now h stands slot refl (version_of p) o found (access_cells (offset reach.lo p) kind (Stores (Number bits))) changed)
+      (stands-cells st now h stands slot refl (version_of p) o found (access_cells (offset reach.lo p) kind (Stores (Number bits))) changed refl)

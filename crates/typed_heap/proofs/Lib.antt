@@ -1,7 +1,7 @@
-pub mod Counted
 pub mod Seen
 pub mod Numbers
 pub mod Standing
+pub mod Taking
 pub mod Placing
 pub mod Accessing
 pub mod Bounded

@@ -1,6 +1,6 @@
 -- A new object in the heap of a region.
 use Rattle.std.proofs.Common.{◌≡◌, ℕ, zero, suc, ◌+◌, ◌-◌, ◌^◌, ◌<◌, ◌≤◌, Bool, true, false, cond, ◌||◌, ◌==◌, List, [], ◌∷◌, length, replicate, Some, None, is_some, refl, sym, ap, ◌∙◌, subst, arith}
-use Rattle.std.specs.Prelude.{unwrap_or}
+use Rattle.std.specs.Prelude.{unwrap_or, Contains}
 use Rattle.std.proofs.lemmas.Bool.{and_from, eq-eqb, lt-ltb, false≢true}
 use Rattle.std.proofs.lemmas.List.Sums.{sum_by-cons}
 use Rattle.lowfat_regions.specs.Regions.{Slot, slot_of, slot_address, slots}
@@ -13,6 +13,7 @@ use Rattle.heap_model.specs.Legal.{MayPlace}
 use Rattle.heap_model.specs.State.{State, SlotState, StandsFor, ChangesSlot, state_of, live_objects, all_versions, one_if}
 use Rattle.heap_model.specs.declared.calls.Call.TheVariants.{Alloc}
 use Rattle.heap_model.specs.declared.calls.Reply.TheVariants.{Placed}
+use Rattle.heap_model.proofs.Resting.{rest-count, not-resting}
 use Rattle.heap_model.proofs.State.{stands-made}
 use Rattle.typed_heap.specs.Naming.{nth_slot}
 use Rattle.typed_heap.specs.SlotStates.{state_at, count_live, next_object, with_object}
@@ -20,9 +21,9 @@ use Rattle.typed_heap.specs.View.{cells}
 use Rattle.typed_heap.proofs.Standing.{here, changed-object}
 
 -- whether a region is full, by its slots
-pub full-same : (st : State) (h : Words) → StandsFor st h → is_full region h st.region ≡ ((live_objects st == slots st.region) || (all_versions st == 2 ^ 24 - 1))
+pub full-same : (st : State) (h : Words) → StandsFor st h → is_full region h st.region ≡ ((live_objects st + length st.resting == slots st.region) || (all_versions st == 2 ^ 24 - 1))
 unfolding is_full
-full-same st h k = λ i. (k.region_live i == slots st.region) || (k.region_made i == 2 ^ 24 - 1)
+full-same st h k = λ i. (k.region_live i + sym (rest-count st h k) i == slots st.region) || (k.region_made i == 2 ^ 24 - 1)
 
 -- ---- an object is placed in a slot
 
@@ -33,13 +34,14 @@ module _ (st : State) (n : ℕ) (o : Body ℕ) (word : ℕ) (free : (state_at st
   version-there : version_of word ≡ 1 + (state_of st (nth_slot st n)).versions
   version-there = version ∙ ap (λ p. 1 + p.versions) (sym (here st n))
 
-  pub may-place : address_of word ≡ slot_address (nth_slot st n) + 16 → (h : Words) → StandsFor st h → MayPlace h st.region word
-  may-place address h k = record {
+  pub may-place : address_of word ≡ slot_address (nth_slot st n) + 16 → (Contains st.resting n → ⊥) → (h : Words) → StandsFor st h → MayPlace h st.region word
+  may-place address rested h k = record {
     slot = nth_slot st n;
     slot_is = is_slot;
     of_region = refl;
     address = address;
     no_live = k.slot_live (nth_slot st n) ∙ ap (λ o. one_if (is_some o)) free-there;
+    rested = not-resting st h k (nth_slot st n) refl rested;
     version = version-there ∙ ap (λ m. 1 + m) (sym (k.slot_made (nth_slot st n)));
   }
 
@@ -48,16 +50,16 @@ module _ (st : State) (n : ℕ) (o : Body ℕ) (word : ℕ) (free : (state_at st
   slot-there = ap (λ s. unwrap_or s (record { region = 0; number = 0 })) is_slot
 
   pub placed : (worker number elem size : ℕ) (fixed : Bool) → o ≡ record { elem = elem; fixed = fixed; cells = zeros size } → (h : Words) → StandsFor st h
-      → StandsFor (record { region = st.region; states = with_object st.states n o }) (next worker number h (Alloc elem size fixed) (Placed word))
+      → StandsFor (record { region = st.region; states = with_object st.states n o; resting = st.resting }) (next worker number h (Alloc elem size fixed) (Placed word))
   unfolding next
   placed worker number elem size fixed body h k =
       let made : Object Name ℕ = new_object worker number elem size fixed word in
-      let now : State = record { region = st.region; states = with_object st.states n o } in
+      let now : State = record { region = st.region; states = with_object st.states n o; resting = st.resting } in
       let changed : ChangesSlot st now made.name.slot (next_object (state_of st made.name.slot) made.body)
       = subst (λ (b : Body ℕ). ChangesSlot st now made.name.slot (next_object (state_of st made.name.slot) b)) body
-      (subst (λ (s : Slot). ChangesSlot st now s (next_object (state_of st s) o)) (sym slot-there) (changed-object st n o inside)) in
+      (subst (λ (s : Slot). ChangesSlot st now s (next_object (state_of st s) o)) (sym slot-there) (changed-object st st.resting n o inside)) in
       stands-made st now h k made (ap (λ s. s.region) slot-there) (ap (λ s. (state_of st s).body) slot-there ∙ free-there)
-      (version-there ∙ ap (λ s. 1 + (state_of st s).versions) (sym slot-there)) changed
+      (version-there ∙ ap (λ s. 1 + (state_of st s).versions) (sym slot-there)) changed refl
 
 -- the cells of zero bytes
 pub zero-cells : (size : ℕ) → cells (replicate size 0) ≡ zeros size
@@ -67,22 +69,13 @@ zero-cells (suc n) = ap (λ xs. Byte 0 ∷ xs) (zero-cells n)
 -- the version of an object that was placed
 pub version-after : (st : State) (n : ℕ) (o : Body ℕ) → n ≤ length st.states → (state_at (with_object st.states n o) n).versions ≡ 1 + (state_at st.states n).versions
 version-after st n o next =
-    let now : State = record { region = st.region; states = with_object st.states n o } in
+    let now : State = record { region = st.region; states = with_object st.states n o; resting = st.resting } in
     let slot = nth_slot st n in
-    sym (ap (λ p. p.versions) (here now n)) ∙ ap (λ p. p.versions) ((changed-object st n o next).state slot)
+    sym (ap (λ p. p.versions) (here now n)) ∙ ap (λ p. p.versions) ((changed-object st st.resting n o next).state slot)
     ∙ ap (λ b. (cond b (next_object (state_of st slot) o) (state_of st slot)).versions) (and_from _ _ (eq-eqb st.region st.region refl) (eq-eqb n n refl))
     ∙ ap (λ p. 1 + p.versions) (here st n)
 
--- no more objects live than slots were taken
-pub live-few : (states : List SlotState) → count_live states ≤ length states
-live-few [] = omega arith
-live-few (p ∷ ps) = omega (arith, sum_by-cons (λ (p : SlotState). one_if (is_some p.body)) p ps, live-few ps, one (is_some p.body))
-  where
-    one : (b : Bool) → one_if b ≤ 1
-    one true = omega arith
-    one false = omega arith
-
--- where a region is not full, a slot is without a live object
+-- where a region is not full, a slot has no live object and does not rest
 pub not-full : (live limit : ℕ) (more : Bool) → ((live == limit) || more) ≡ false → live ≡ limit → ⊥
 not-full live limit more e same = let t : ((live == limit) || more) ≡ true = ap (λ b. b || more) (eq-eqb live limit same) in absurd (false≢true (sym e ∙ t))
 

@@ -10,9 +10,10 @@ use Rattle.heap_model.specs.Heap.{Body}
 use Rattle.heap_model.specs.State.{SlotState, fresh_slot}
 use Rattle.typed_heap.specs.declared.object.Object.{Object}
 use Rattle.typed_heap.specs.declared.slots.SlotRow.{SlotRow}
-use Rattle.typed_heap.specs.SlotStates.{state_at, count_live, count_made, next_object, with_object, with_cells_of}
-use Rattle.typed_heap.specs.View.{ListsFree, state_of_row, body, cells}
-use Rattle.typed_heap.proofs.Counted as counted
+use Rattle.typed_heap.specs.SlotStates.{state_at, count_made, next_object, without_object, with_object, with_cells_of}
+use Rattle.free_slots.specs.Slots.{Slots, after_give}
+use Rattle.typed_heap.specs.View.{TakesLive, state_of_row, body, cells}
+use Rattle.typed_heap.proofs.Taking.{gave, kept}
 
 module _ (items : List SlotRow) (n : ℕ) (k : SlotRow) (below : n < length items) (is : k ≡ get_or items n k) where
   pub here : state_at (map state_of_row items) n ≡ state_of_row k
@@ -37,23 +38,15 @@ module _ (items : List SlotRow) (n : ℕ) (k : SlotRow) (below : n < length item
       let h : (state_at (map state_of_row items) n).versions ≡ k.versions = ap (λ p. p.versions) here in
       omega (arith, get_or-le-sum_by (λ (p : SlotState). p.versions) (map state_of_row items) n fresh_slot below-seen, h)
 
-  pub released : (free : List ℕ) → ListsFree (map state_of_row items) free → is_some (state_of_row k).body ≡ true → (new : SlotRow) → new.object ≡ None
-      → ListsFree (map state_of_row (set items n new)) (free ++ n ∷ []) × (count_live (map state_of_row (set items n new)) + 1 ≡ count_live (map state_of_row items))
-  released free lists live new dead =
-      let at : is_some (state_at (map state_of_row items) n).body ≡ true = ap (λ p. is_some p.body) here ∙ live in
-      let gone : is_some (state_of_row new).body ≡ false = ap (λ o. is_some (option_map body o)) dead in
-      rw map-set (counted.released (map state_of_row items) free n (state_of_row new) below-seen at lists gone, counted.count_live-released (map state_of_row items) free n (state_of_row new) below-seen at lists gone)
+  pub gone : (free : Slots) → TakesLive (map state_of_row items) free → is_some (state_of_row k).body ≡ true → (new : SlotRow) → state_of_row new ≡ without_object (state_of_row k)
+      → TakesLive (map state_of_row (set items n new)) (after_give free n)
+  gone free takes live new dead =
+      rw (changed without_object new dead) (gave (map state_of_row items) free takes n below-seen (ap (λ p. is_some p.body) here ∙ live))
 
-  pub reused : (free rest : List ℕ) → free ≡ rest ++ n ∷ [] → ListsFree (map state_of_row items) free → (new : SlotRow) → is_some (state_of_row new).body ≡ true
-      → ListsFree (map state_of_row (set items n new)) rest × (count_live (map state_of_row (set items n new)) ≡ count_live (map state_of_row items) + 1)
-  reused free rest last lists new live =
-      rw map-set (counted.reused (map state_of_row items) free rest n last lists (state_of_row new) live, counted.count_live-reused (map state_of_row items) free rest n last lists (state_of_row new) live)
-
-  pub kept : (free : List ℕ) → ListsFree (map state_of_row items) free → is_some (state_of_row k).body ≡ true → (new : SlotRow) → is_some (state_of_row new).body ≡ true
-      → ListsFree (map state_of_row (set items n new)) free × (count_live (map state_of_row (set items n new)) ≡ count_live (map state_of_row items))
-  kept free lists live new stays =
-      let at : is_some (state_at (map state_of_row items) n).body ≡ true = ap (λ p. is_some p.body) here ∙ live in
-      rw map-set (counted.kept (map state_of_row items) free n (state_of_row new) below-seen at lists stays, counted.count_live-kept (map state_of_row items) free n (state_of_row new) below-seen at lists stays)
+  pub stays : (free : Slots) → TakesLive (map state_of_row items) free → (new : SlotRow) → is_some (state_of_row new).body ≡ is_some (state_of_row k).body
+      → TakesLive (map state_of_row (set items n new)) free
+  stays free takes new same =
+      rw (map-set state_of_row items n new) (kept (map state_of_row items) free takes n below-seen (state_of_row new) (same ∙ ap (λ p. is_some p.body) (sym here)))
 
 -- an object is placed in a slot that was taken
 pub object-again : (states : List SlotState) (n : ℕ) (o : Body ℕ) → n < length states → set states n (next_object (state_at states n) o) ≡ with_object states n o

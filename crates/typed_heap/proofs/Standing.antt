@@ -131,42 +131,54 @@ push-at xs p m = go (cases_eq m (length xs))
         two (inr past) = get_or_past (xs ++ p ∷ []) m fresh_slot (omega (arith, length-append xs (p ∷ []))) ∙ sym (get_or_past xs m fresh_slot past)
 
 -- a choice between states, for a slot of another region too
-chosen : (st : State) (states : List SlotState) (n : ℕ) (p : SlotState) → ((m : ℕ) → get_or states m fresh_slot ≡ cond (m == n) p (get_or st.states m fresh_slot))
-    → (t : Slot) → state_of (record { region = st.region; states = states }) t ≡ cond (is_slot t (nth_slot st n)) p (state_of st t)
-chosen st states n p at t = go (t.region == st.region)
+chosen : (st : State) (resting : List ℕ) (states : List SlotState) (n : ℕ) (p : SlotState) → ((m : ℕ) → get_or states m fresh_slot ≡ cond (m == n) p (get_or st.states m fresh_slot))
+    → (t : Slot) → state_of (record { region = st.region; states = states; resting = resting }) t ≡ cond (is_slot t (nth_slot st n)) p (state_of st t)
+chosen st resting states n p at t = go (t.region == st.region)
   where
     go : (b : Bool) → cond b (get_or states t.number fresh_slot) fresh_slot ≡ cond (b && (t.number == n)) p (cond b (get_or st.states t.number fresh_slot) fresh_slot)
     go true = at t.number
     go false = refl
 
-pub changed-set : (st : State) (n : ℕ) (p : SlotState) → n < length st.states → ChangesSlot st (record { region = st.region; states = set st.states n p }) (nth_slot st n) p
-changed-set st n p below = record {
+pub changed-set : (st : State) (resting : List ℕ) (n : ℕ) (p : SlotState) → n < length st.states → ChangesSlot st (record { region = st.region; states = set st.states n p; resting = resting }) (nth_slot st n) p
+changed-set st resting n p below = record {
   region_is = refl;
-  state = chosen st (set st.states n p) n p (set-at st.states n p below);
+  state = chosen st resting (set st.states n p) n p (set-at st.states n p below);
   live = omega (arith, sum_by-set (λ p. one_if (is_some p.body)) st.states n p fresh_slot below, ap (λ p. one_if (is_some p.body)) (here st n));
   made = omega (arith, sum_by-set (λ p. p.versions) st.states n p fresh_slot below, ap (λ p. p.versions) (here st n));
 }
 
-pub changed-push : (st : State) (p : SlotState) → ChangesSlot st (record { region = st.region; states = st.states ++ p ∷ [] }) (nth_slot st (length st.states)) p
-changed-push st p =
+pub changed-push : (st : State) (resting : List ℕ) (p : SlotState) → ChangesSlot st (record { region = st.region; states = st.states ++ p ∷ []; resting = resting }) (nth_slot st (length st.states)) p
+changed-push st resting p =
     let past : state_of st (nth_slot st (length st.states)) ≡ fresh_slot = here st (length st.states) ∙ get_or_past st.states (length st.states) fresh_slot (omega arith) in
     record {
       region_is = refl;
-      state = chosen st (st.states ++ p ∷ []) (length st.states) p (push-at st.states p);
+      state = chosen st resting (st.states ++ p ∷ []) (length st.states) p (push-at st.states p);
       live = omega (arith, sum_by_push (λ p. one_if (is_some p.body)) st.states p, ap (λ p. one_if (is_some p.body)) past);
       made = omega (arith, sum_by_push (λ p. p.versions) st.states p, ap (λ p. p.versions) past);
     }
 
+pub object-at : (xs : List SlotState) (n : ℕ) (o : Body ℕ) → n ≤ length xs → (m : ℕ)
+    → state_at (with_object xs n o) m ≡ cond (m == n) (next_object (state_at xs n) o) (state_at xs m)
+object-at xs n o next m = go (nat_lt n (length xs)) refl
+  where
+    go : (b : Bool) → nat_lt n (length xs) ≡ b
+        → state_at (cond b (set xs n (next_object (state_at xs n) o)) (xs ++ next_object fresh_slot o ∷ [])) m ≡ cond (m == n) (next_object (state_at xs n) o) (state_at xs m)
+    go true e = set-at xs n (next_object (state_at xs n) o) (ltb-true _ _ e) m
+    go false e =
+        let last : n ≡ length xs = omega (arith, ltb-false _ _ e) in
+        let past : state_at xs n ≡ fresh_slot = get_or_past xs n fresh_slot (omega arith) in
+        push-at xs (next_object fresh_slot o) m ∙ (λ i. cond (m == sym last i) (next_object (sym past i) o) (state_at xs m))
+
 -- an object is placed in a slot
-pub changed-object : (st : State) (n : ℕ) (o : Body ℕ) → n ≤ length st.states
-    → ChangesSlot st (record { region = st.region; states = with_object st.states n o }) (nth_slot st n) (next_object (state_of st (nth_slot st n)) o)
-changed-object st n o next = go (nat_lt n (length st.states)) refl
+pub changed-object : (st : State) (resting : List ℕ) (n : ℕ) (o : Body ℕ) → n ≤ length st.states
+    → ChangesSlot st (record { region = st.region; states = with_object st.states n o; resting = resting }) (nth_slot st n) (next_object (state_of st (nth_slot st n)) o)
+changed-object st resting n o next = go (nat_lt n (length st.states)) refl
   where
     go : (b : Bool) → nat_lt n (length st.states) ≡ b
-        → ChangesSlot st (record { region = st.region; states = cond b (set st.states n (next_object (state_at st.states n) o)) (st.states ++ next_object fresh_slot o ∷ []) }) (nth_slot st n) (next_object (state_of st (nth_slot st n)) o)
-    go true e = subst (λ p. ChangesSlot st (record { region = st.region; states = set st.states n (next_object (state_at st.states n) o) }) (nth_slot st n) (next_object p o)) (sym (here st n)) (changed-set st n (next_object (state_at st.states n) o) (ltb-true _ _ e))
+        → ChangesSlot st (record { region = st.region; states = cond b (set st.states n (next_object (state_at st.states n) o)) (st.states ++ next_object fresh_slot o ∷ []); resting = resting }) (nth_slot st n) (next_object (state_of st (nth_slot st n)) o)
+    go true e = subst (λ p. ChangesSlot st (record { region = st.region; states = set st.states n (next_object (state_at st.states n) o); resting = resting }) (nth_slot st n) (next_object p o)) (sym (here st n)) (changed-set st resting n (next_object (state_at st.states n) o) (ltb-true _ _ e))
     go false e =
         let last : n ≡ length st.states = omega (arith, ltb-false _ _ e) in
         let past : state_of st (nth_slot st n) ≡ fresh_slot = here st n ∙ get_or_past st.states n fresh_slot (omega arith) in
-        subst (λ p. ChangesSlot st (record { region = st.region; states = st.states ++ next_object fresh_slot o ∷ [] }) (nth_slot st n) (next_object p o)) (sym past)
-        (subst (λ k. ChangesSlot st (record { region = st.region; states = st.states ++ next_object fresh_slot o ∷ [] }) (nth_slot st k) (next_object fresh_slot o)) (sym last) (changed-push st (next_object fresh_slot o)))
+        subst (λ p. ChangesSlot st (record { region = st.region; states = st.states ++ next_object fresh_slot o ∷ []; resting = resting }) (nth_slot st n) (next_object p o)) (sym past)
+        (subst (λ k. ChangesSlot st (record { region = st.region; states = st.states ++ next_object fresh_slot o ∷ []; resting = resting }) (nth_slot st k) (next_object fresh_slot o)) (sym last) (changed-push st resting (next_object fresh_slot o)))

@@ -1,8 +1,15 @@
 -- What is kept of the slots of a region, as a list by their numbers.
-use Rattle.std.specs.Prelude.{ℕ, Bool, ◌+◌, ◌&&◌, nat_lt, List, [], ◌∷◌, ◌++◌, length, get_or, set, sum_by, is_some, is_none, Some, None, if◌then◌else◌}
+use Rattle.std.specs.Prelude.{ℕ, ◌+◌, nat_lt, List, [], ◌∷◌, ◌++◌, length, get_or, set, sum_by, is_some, Some, None, if◌then◌else◌}
 use Rattle.heap_model.specs.Cells.{Cell}
 use Rattle.heap_model.specs.Heap.{Body}
 use Rattle.heap_model.specs.State.{SlotState, fresh_slot, one_if}
+
+-- the slots of a region: how many there are, the states of those that were taken, and the numbers of those at rest in the
+-- order in which they were freed
+pub record SlotTable : Type 0 where
+  pub count : ℕ
+  pub states : List SlotState
+  pub resting : List ℕ
 
 abbrev pub state_at : List SlotState → ℕ → SlotState
 state_at states n = get_or states n fresh_slot
@@ -14,10 +21,6 @@ count_live = sum_by (λ p. one_if (is_some p.body))
 -- how many were made
 abbrev pub count_made : List SlotState → ℕ
 count_made = sum_by (λ p. p.versions)
-
--- whether a slot that was taken has no live object
-abbrev pub is_free : List SlotState → ℕ → Bool
-is_free states n = nat_lt n (length states) && is_none (state_at states n).body
 
 -- the state of a slot whose next object lives
 abbrev pub next_object : SlotState → Body ℕ → SlotState

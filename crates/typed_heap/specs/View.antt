@@ -1,12 +1,14 @@
 -- What is seen of objects and slots, and what is kept true of them.
-use Rattle.std.specs.Prelude.{◌≡◌, ℕ, ◌+◌, ◌≤◌, ◌==◌, List, map, length, option_map, count_by, vec_capacity}
+use Rattle.std.specs.Prelude.{◌≡◌, ℕ, ◌≤◌, List, map, length, option_map, is_some}
+use Rattle.std.specs.FinSet.{contains}
+use Rattle.free_slots.specs.Slots.{Slots, live_count, made_count, resting_slots}
 use Rattle.heap_model.specs.Cells.{Cell, Byte}
 use Rattle.heap_model.specs.Heap.{Body}
-use Rattle.heap_model.specs.State.{SlotState, one_if}
+use Rattle.heap_model.specs.State.{SlotState}
 use Rattle.typed_heap.specs.declared.object.Object.{Object}
 use Rattle.typed_heap.specs.declared.slots.SlotRow.{SlotRow}
 use Rattle.typed_heap.specs.declared.slots.Slots.TheInside.{Inside}
-use Rattle.typed_heap.specs.SlotStates.{count_live, count_made, is_free}
+use Rattle.typed_heap.specs.SlotStates.{SlotTable, count_live, count_made, state_at}
 
 abbrev pub cells : List ℕ → List (Cell ℕ)
 cells = map Byte
@@ -20,13 +22,16 @@ state_of_row p = record { versions = p.versions; body = option_map body p.object
 abbrev pub states_of : Inside → List SlotState
 states_of a = map state_of_row a.rows.items
 
--- These are the numbers of the slots that were taken and have no live object, each once.
-pub record ListsFree (states : List SlotState) (free : List ℕ) : Type 0 where
-  pub count : length free + count_live states ≡ length states
-  pub each : (n : ℕ) → count_by (λ m. m == n) free ≡ one_if (is_free states n)
+abbrev pub table_of : Inside → SlotTable
+table_of a = record { count = a.free.count; states = states_of a; resting = resting_slots a.free }
+
+-- The slots that are taken are those with a live object, and those that were ever taken have a state.
+pub record TakesLive (states : List SlotState) (free : Slots) : Type 0 where
+  pub made : made_count free ≡ length states
+  pub few : length states ≤ free.count
+  pub live : live_count free ≡ count_live states
+  pub each : (n : ℕ) → contains free.taken n ≡ is_some (state_at states n).body
 
 pub record IsCounted (a : Inside) : Type 0 where
-  pub live : a.live ≡ count_live (states_of a)
   pub made : a.made ≡ count_made (states_of a)
-  pub free : ListsFree (states_of a) a.free.items
-  pub room : length a.rows.items ≤ vec_capacity a.free
+  pub free : TakesLive (states_of a) a.free

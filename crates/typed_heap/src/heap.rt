@@ -72,12 +72,13 @@ impl RegionHeap {
         requires { regions.IsRegion region }
         ensures region { IfOk result (λ heap. heap.region ≡ region) }
         ensures empty { IfOk result (λ heap. heap.states ≡ []) }
+        ensures rested { IfOk result (λ heap. heap.resting ≡ []) }
         ensures stands { IfOk result (λ heap. StandsFor heap empty) }
     {
         Ok(RegionHeap {
             alloc,
             region,
-            slots: Slots::new(alloc),
+            slots: Slots::new(alloc, slots_of(region)),
         })
     }
 
@@ -104,9 +105,10 @@ impl RegionHeap {
 
     /// Whether no further object can be placed.
     fn is_full(&self) -> bool
-        ensures { result ≡ ((live_objects self.now == regions.slots self.now.region) || (all_versions self.now == max_objects)) }
+        ensures { result ≡ ((live_objects self.now + length self.now.resting == regions.slots self.now.region) || (all_versions self.now == max_objects)) }
     {
-        self.slots.live() == slots_of(self.region) || self.slots.made() == MAX_OBJECTS
+        let used = u64::from(self.slots.live()) + u64::from(self.slots.resting());
+        used == u64::from(slots_of(self.region)) || self.slots.made() == MAX_OBJECTS
     }
 
     /// The word of the first byte of the last object of a slot.
@@ -354,8 +356,8 @@ impl RegionHeap {
         }
     }
 
-    /// Answers a call of this region, which is no addition and no access to a pointer. An allocation takes the slot that was
-    /// given back last, or else the next that was never taken. Only an allocation and a check can be out of memory.
+    /// Answers a call of this region, which is no addition and no access to a pointer. An allocation takes, of the slots that
+    /// were given back and rest no more, the one given back last, or else the next that was never taken. Only an allocation and a check can be out of memory.
     pub fn step(&mut self, types: &TypeTable, call: &Call) -> Result<Reply, AllocError>
         requires region { region_for call.now ≡ Some self.old.region }
         requires fits { fits_call call.now ≡ true }

@@ -21,12 +21,12 @@ returns-then-region-self c =
 
 pub returns-then-slot-slot_count : goal.returns-then-slot-slot_count
 returns-then-slot-slot_count c =
-    let past : length c.self.inside.slots ≤ c.in_ok-slot.slot = omega arith in
+    let past : length c.self.inside.slots.states ≤ c.in_ok-slot.slot = omega arith in
     subst (λ (st : State). (word : ℕ) → NamesNone st c.args.anchor word) c.self.view_is
     (untaken (state c.self.inside) c.args.anchor c.in_ok-slot.slot (sym c.in_ok-region.ensures.value ∙ ap Some c.if-region-self.false) c.in_ok-slot.ensures past)
 
 pub returns : goal.returns
 returns c =
-    let below : c.in_ok-slot.slot < length c.self.inside.slots = omega arith in
+    let below : c.in_ok-slot.slot < length c.self.inside.slots.states = omega arith in
     subst (λ (st : State). IsInSlot st c.args.anchor c.in_ok-slot.slot) c.self.view_is
     (in-slot (state c.self.inside) c.args.anchor c.in_ok-slot.slot (sym c.in_ok-region.ensures.value ∙ ap Some c.if-region-self.false) c.in_ok-slot.ensures below)

@@ -1,57 +1,71 @@
-use Rattle.std.proofs.Common.{◌≡◌, ◌<◌, ◌∙◌, ◌+◌, Some, length, map, ap, refl, arith, length-set}
+use Rattle.std.proofs.Common.{◌≡◌, ◌∙◌, ◌≤◌, ◌<◌, ℕ, true, List, map, length, Option, Some, ap, sym, subst, arith}
+use Rattle.std.specs.Prelude.{IfSome}
+use Rattle.std.specs.FinSet.{contains}
 use Rattle.std.proofs.lemmas.List.{length-map}
-use Rattle.typed_heap.specs.declared.slots.SlotRow.{SlotRow}
-use Rattle.typed_heap.specs.SlotStates.{count_made, next_object, with_object}
-use Rattle.typed_heap.specs.View.{state_of_row, body}
-use Rattle.typed_heap.proofs.Counted.{last_below}
-use Rattle.typed_heap.proofs.Seen.{changed, reused, count_made-set, version-bound, object-again, one-more}
+use Rattle.free_slots.specs.Slots.{Slots, IsFree, TellsFresh, next_of, after_take}
+use Rattle.free_slots.specs.declared.slots.Taken.{Taken}
+use Rattle.heap_model.specs.State.{SlotState}
+use Rattle.typed_heap.specs.SlotStates.{SlotTable, count_made, with_object}
+use Rattle.typed_heap.specs.View.{TakesLive, state_of_row, body}
+use Rattle.typed_heap.proofs.Taking.{taken-next, taken-within, count_made-object, took}
 use Rattle.typed_heap.proofs.slots.Slots.take.Goals as goal
-use Rattle.typed_heap.proofs.slots.Slots.take.Goals.{In-Some, After-index_mut-row}
+use Rattle.typed_heap.proofs.slots.Slots.take.Goals.{In-Some, After-place}
 
-seen_below : (c : In-Some) → c.in-Some.number < length (map state_of_row c.self.inside.rows.items)
-seen_below c = last_below (map state_of_row c.self.inside.rows.items) c.self.inside.free.items c.pop.new.self.items c.in-Some.number c.in-Some.ensures.items c.self.invariant.free
+abbrev states : In-Some → List SlotState
+states c = map state_of_row c.self.inside.rows.items
 
-below : (c : In-Some) → c.in-Some.number < length c.self.inside.rows.items
-below c = omega (arith, seen_below c, length-map c.self.inside.rows.items state_of_row)
+-- the slot comes next, and is taken
+is_next : (c : In-Some) → Some c.in-Some.taken ≡ next_of c.self.inside.free
+is_next c = sym c.in-Some.is ∙ c.in_ok-taken.ensures.next
 
-abbrev again : After-index_mut-row → SlotRow
-again c = record { versions = c.index_mut-row.result.now.versions + 1; object = Some c.args.object }
+tells : (c : In-Some) → TellsFresh c.self.inside.free c.in-Some.taken
+tells c = subst (λ (o : Option Taken). IfSome o (TellsFresh c.self.inside.free)) c.in-Some.is c.in_ok-taken.ensures.fresh
 
-pub index_mut-row-requires : goal.index_mut-row-requires
-index_mut-row-requires c =
-    let at = below (goal.at.index_mut-row-requires c).In-Some in
-    omega (arith, c.self.inside.rows.ok.0)
+apart : (c : In-Some) → contains c.self.inside.free.taken c.in-Some.taken.slot ≡ true → ⊥
+apart c = (subst (λ (o : Option Taken). IfSome o (λ taken. IsFree c.self.inside.free taken.slot)) c.in-Some.is c.in_ok-taken.ensures.free).0
 
-pub overflow_add-row : goal.overflow_add-row
-overflow_add-row c =
-    let at = below (goal.at.overflow_add-row c).In-Some in
-    let made : count_made (map state_of_row c.self.inside.rows.items) ≡ count_made c.args.self.now = ap count_made c.self.view_is in
-    omega (arith, made, version-bound c.self.inside.rows.items c.in-Some.number c.index_mut-row.result.now at c.index_mut-row.ensures.value)
+step : (c : In-Some) → c.take.new.self ≡ after_take c.self.inside.free (Some c.in-Some.taken)
+step c = c.in_ok-taken.ensures.step ∙ ap (after_take c.self.inside.free) c.in-Some.is
+
+next : (c : In-Some) → c.in-Some.taken.slot ≤ length (states c)
+next c = taken-next (states c) c.self.inside.free c.self.invariant.free c.in-Some.taken (is_next c) (tells c) (apart c)
+
+pub place-requires-clause-next : goal.place-requires-clause-next
+place-requires-clause-next c =
+    omega (arith, next (goal.at.place-requires-clause-next c).In-Some, length-map c.self.inside.rows.items state_of_row, ap length c.in_ok-reserve.ensures.items)
+
+-- the states as they are then
+seen : (c : After-place) → map state_of_row c.place.new.rows.items ≡ with_object (map state_of_row c.self.inside.rows.items) c.in-Some.taken.slot (body c.args.object)
+seen c = c.place.ensures ∙ ap (λ rows. with_object (map state_of_row rows) c.in-Some.taken.slot (body c.args.object)) c.in_ok-reserve.ensures.items
 
 pub invariant_of-self-2 : goal.invariant_of-self-2
 invariant_of-self-2 c =
-    let items = c.self.inside.rows.items in
-    let k = c.index_mut-row.result.now in
-    let at = below (goal.at.invariant_of-self-2 c).In-Some in
-    let new = again (goal.at.invariant_of-self-2 c).After-index_mut-row in
-    let lists = reused items c.in-Some.number k at c.index_mut-row.ensures.value c.self.inside.free.items c.pop.new.self.items c.in-Some.ensures.items c.self.invariant.free new refl in
+    let at = (goal.at.invariant_of-self-2 c).In-Some in
+    let now = seen (goal.at.invariant_of-self-2 c).After-place in
     record {
-      live = omega (arith, lists.1, c.self.invariant.live);
-      made = omega (arith, count_made-set items c.in-Some.number k at c.index_mut-row.ensures.value new, c.self.invariant.made);
-      free = lists.0;
-      room = omega (arith, length-set items c.in-Some.number new, c.self.invariant.room, c.in-Some.ensures.capacity);
+      made = omega (arith, ap count_made now, count_made-object (states at) c.in-Some.taken.slot (body c.args.object) (next at), c.self.invariant.made);
+      free =
+          subst (λ (ps : List SlotState). TakesLive ps c.take.new.self) (sym now)
+          (subst (λ (s : Slots). TakesLive (with_object (states at) c.in-Some.taken.slot (body c.args.object)) s) (sym (step at))
+          (took (states at) c.self.inside.free c.self.invariant.free c.in-Some.taken (is_next at) (tells at) (apart at) (body c.args.object)));
     }
 
 pub returns-clause-next : goal.returns-clause-next
-returns-clause-next c = omega (arith, seen_below (goal.at.returns-clause-next c).In-Some, ap length c.self.view_is)
+returns-clause-next c = omega (arith, next (goal.at.returns-clause-next c).In-Some, ap (λ (t : SlotTable). length t.states) c.self.view_is)
 
-pub returns-clause-fresh : goal.returns-clause-fresh
-returns-clause-fresh c = λ past. absurd (omega (arith, seen_below (goal.at.returns-clause-fresh c).In-Some, ap length c.self.view_is))
+pub returns-clause-within : goal.returns-clause-within
+returns-clause-within c =
+    let at = (goal.at.returns-clause-within c).In-Some in
+    let within = taken-within (states at) c.self.inside.free c.self.invariant.free c.in-Some.taken (is_next at) (tells at) (apart at) in
+    omega (arith, within, ap (λ (t : SlotTable). t.count) c.self.view_is)
 
 pub returns-clause-placed : goal.returns-clause-placed
+unfolding after_take
 returns-clause-placed c =
-    let at = below (goal.at.returns-clause-placed c).In-Some in
-    let new = again (goal.at.returns-clause-placed c).After-index_mut-row in
-    changed c.self.inside.rows.items c.in-Some.number c.index_mut-row.result.now at c.index_mut-row.ensures.value (λ p. next_object p (body c.args.object)) new (one-more c.index_mut-row.result.now.versions (body c.args.object))
-    ∙ object-again (map state_of_row c.self.inside.rows.items) c.in-Some.number (body c.args.object) (seen_below (goal.at.returns-clause-placed c).In-Some)
-    ∙ ap (λ states. with_object states c.in-Some.number (body c.args.object)) c.self.view_is
+    let at = (goal.at.returns-clause-placed c).In-Some in
+    (λ i. record {
+      count = ap (λ (s : Slots). s.count) (step at) i;
+      states = seen (goal.at.returns-clause-placed c).After-place i;
+      resting = c.in_ok-taken.ensures.resting i;
+    })
+    ∙ ap (λ (t : SlotTable). record { count = t.count; states = with_object t.states c.in-Some.taken.slot (body c.args.object); resting = t.resting }) c.self.view_is
