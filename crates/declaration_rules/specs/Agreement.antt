@@ -1,18 +1,26 @@
 -- Declarations of one function or one object of the whole text (C11 6.2.2, 6.2.7): they agree, and one at most defines
 -- it.
 use Rattle.std.specs.Prelude.{ℕ, suc, ◌+◌, ◌==◌, Bool, true, false, ◌&&◌, ◌||◌, not, List, [], ◌∷◌, ◌++◌, length}
-use Rattle.std.specs.Prelude.{Option, Some, None, is_some, Ok, Err, if◌then◌else◌, slice_set}
+use Rattle.std.specs.Prelude.{Option, Some, None, is_some, Ok, Err, if◌then◌else◌}
 use Rattle.c_types.specs.Shapes.{is_open}
 use Rattle.c_types.specs.Table.{Types, shape_of}
 use Rattle.well_typed.specs.Kinds.{element}
-use Rattle.well_typed.specs.Surroundings.{Signature}
+use Rattle.scoped_meanings.specs.Meanings.{meaning_placed, put_at}
 use Rattle.static_rules.specs.declared.faults.CheckKind.TheVariants as why
 use Rattle.static_rules.specs.Answers.{Answer, ◌>>=◌, fault, fault_if}
 use Rattle.static_rules.specs.Predefined.{is_given}
 use Rattle.static_rules.specs.Source.{Source}
-use Rattle.static_rules.specs.States.{State, Where, Made, Symbol, Declared, GlobalSoFar, symbol_here}
+use Rattle.static_rules.specs.States.{symbol_here}
+use Rattle.static_rules.specs.declared.states.State.{State}
 use Rattle.static_rules.specs.States.{with_symbol}
-use Rattle.static_rules.specs.States as m
+use Rattle.static_rules.specs.declared.states.DeclaredFunction.{DeclaredFunction}
+use Rattle.static_rules.specs.declared.states.GlobalSoFar.{GlobalSoFar}
+use Rattle.static_rules.specs.declared.states.Made.TheVariants as m
+use Rattle.static_rules.specs.declared.states.Made.{Made}
+use Rattle.static_rules.specs.declared.states.Symbol.TheVariants as means
+use Rattle.static_rules.specs.declared.states.Symbol.{Symbol}
+use Rattle.static_rules.specs.declared.states.Where.{Where}
+use Rattle.well_typed.specs.declared.signatures.Signature.{Signature}
 
 -- a declarator of a declaration: its name, by number, and the line of its first token
 pub record Introduced : Type 0 where
@@ -21,31 +29,23 @@ pub record Introduced : Type 0 where
 
 -- ---- what a name was declared as before, in any scope
 
-abbrev pub function_from : ℕ → List Declared → ℕ → Option (ℕ × Declared)
-function_from n [] name = None
-function_from n (first ∷ rest) name = if first.name == name then Some (n, first) else function_from (n + 1) rest name
-
 -- the function of a name, and its number in the order of first declarations
-abbrev pub function_named : State → ℕ → Option (ℕ × Declared)
-function_named s name = function_from 0 s.functions name
-
-abbrev pub global_from : ℕ → List GlobalSoFar → ℕ → Option (ℕ × GlobalSoFar)
-global_from n [] name = None
-global_from n (first ∷ rest) name = if first.name == name then Some (n, first) else global_from (n + 1) rest name
+abbrev pub function_named : State → ℕ → Option (ℕ × DeclaredFunction)
+function_named s name = meaning_placed s.functions name
 
 -- the object of the whole text of a name, and its number
 abbrev pub global_named : State → ℕ → Option (ℕ × GlobalSoFar)
-global_named s name = global_from 0 s.globals name
+global_named s name = meaning_placed s.globals name
 
 -- in the innermost scope a name means nothing, or a function
 abbrev pub only_function : Option Symbol → Bool
 only_function None = true
-only_function (Some (m.Function_of number)) = true
+only_function (Some (means.Function number)) = true
 only_function (Some other) = false
 
 abbrev pub only_global : Option Symbol → Bool
 only_global None = true
-only_global (Some (m.Global_of number)) = true
+only_global (Some (means.Global number)) = true
 only_global (Some other) = false
 
 -- With a fault in its type a declaration agrees with no earlier one.
@@ -80,23 +80,21 @@ module _ (source : Source) (defined : List ℕ) where
   abbrev pub repeated_function : Introduced → ℕ → Signature → Signature × State → Answer (ℕ × State)
   repeated_function d number earlier (signature, s) =
       fault_if (not (same_signature signature earlier)) why.Redefined d.here >>= λ fine.
-      Ok (number, with_symbol s d.name (m.Function_of number))
+      Ok (number, with_symbol s d.name (means.Function number))
 
   abbrev pub with_function : Introduced → Signature → State → State
   with_function d signature s = record s {
-    functions = s.functions ++ record {
-      name = d.name;
-      signature = signature;
-      number = number_from 0 defined d.name;
-      defined = false;
-    } ∷ [];
+    functions = s.functions ++ (
+      d.name,
+      record { signature = signature; number = number_from 0 defined d.name; defined = false },
+    ) ∷ [];
   }
 
   abbrev pub first_function : Introduced → Signature × State → ℕ × State
   first_function d (signature, s) =
-      (length s.functions, with_symbol (with_function d signature s) d.name (m.Function_of (length s.functions)))
+      (length s.functions, with_symbol (with_function d signature s) d.name (means.Function (length s.functions)))
 
-  abbrev pub function_by : State → Introduced → Answer (Signature × State) → Option (ℕ × Declared) → Answer (ℕ × State)
+  abbrev pub function_by : State → Introduced → Answer (Signature × State) → Option (ℕ × DeclaredFunction) → Answer (ℕ × State)
   function_by s d type (Some (number, earlier)) =
       agreeing true d.here type >>= repeated_function d number earlier.signature
   function_by s d type None =
@@ -153,7 +151,6 @@ declared_again w s defines kind earlier = record earlier {
 
 abbrev pub declared_first : Where → State → Bool → Introduced → ℕ → GlobalSoFar
 declared_first w s defines d kind = record {
-  name = d.name;
   kind = kind;
   line = w.line;
   named_at = d.here;
@@ -161,18 +158,18 @@ declared_first w s defines d kind = record {
   initial = [];
 }
 
-abbrev pub with_globals : State → Bool → List GlobalSoFar → State
+abbrev pub with_globals : State → Bool → List (ℕ × GlobalSoFar) → State
 with_globals s defines globals = record s { globals = globals; defined = more_defined defines s.defined }
 
 abbrev pub with_meaning : State → ℕ → ℕ → ℕ × State
-with_meaning s name number = (number, with_symbol s name (m.Global_of number))
+with_meaning s name number = (number, with_symbol s name (means.Global number))
 
 abbrev pub repeated_global : Where → Bool → Introduced → ℕ → GlobalSoFar → ℕ → State → ℕ × State
 repeated_global w defines d number earlier kind s =
-    let globals = slice_set s.globals number (declared_again w s defines kind earlier) in
+    let globals = put_at s.globals number (declared_again w s defines kind earlier) in
     with_meaning (with_globals s defines globals) d.name number
 
 abbrev pub first_global : Where → Bool → Introduced → ℕ → State → ℕ × State
 first_global w defines d kind s =
-    let globals = s.globals ++ declared_first w s defines d kind ∷ [] in
+    let globals = s.globals ++ (d.name, declared_first w s defines d kind) ∷ [] in
     with_meaning (with_globals s defines globals) d.name (length s.globals)

@@ -16,8 +16,8 @@ use Rattle.static_rules.specs.declared.judged.Operand.{Operand}
 use Rattle.static_rules.specs.Answers.{Answer, ◌>>=◌, fault_if, or_mismatch, each}
 use Rattle.static_rules.specs.Source.{Source}
 use Rattle.static_rules.specs.Operands.{in_table}
-use Rattle.static_rules.specs.States.{State, Where, Made, on_line, with_symbol}
-use Rattle.static_rules.specs.States as m
+use Rattle.static_rules.specs.States.{on_line, with_symbol}
+use Rattle.static_rules.specs.declared.states.State.{State}
 use Rattle.declaration_rules.specs.Parts.{Around, declares_function, made}
 use Rattle.declaration_rules.specs.Readers.{Readers, OfDeclaration, declarator_line}
 use Rattle.declaration_rules.specs.Declarators.{is_taken}
@@ -25,6 +25,10 @@ use Rattle.declaration_rules.specs.Storage.{says_typedef, says_extern, is_tag_al
 use Rattle.declaration_rules.specs.Initialisers.{passed}
 use Rattle.declaration_rules.specs.Agreement.{Introduced, signature_of, function}
 use Rattle.declaration_rules.specs.Objects.{Outcome, no_outcome, mismatched, variable, object}
+use Rattle.static_rules.specs.declared.states.Made.TheVariants as m
+use Rattle.static_rules.specs.declared.states.Made.{Made}
+use Rattle.static_rules.specs.declared.states.Symbol.TheVariants as means
+use Rattle.static_rules.specs.declared.states.Where.{Where}
 
 -- ---- typedefs (C11 6.7.8)
 
@@ -35,7 +39,7 @@ typedef_meaning (m.Array of count) kind = m.Known kind
 typedef_meaning (m.Open of) kind = m.Known kind
 
 abbrev pub with_typedef : Introduced → Made × State → State
-with_typedef d (type, s) = let r = in_table s type in with_symbol r.1 d.name (m.Typedef (typedef_meaning type r.0))
+with_typedef d (type, s) = let r = in_table s type in with_symbol r.1 d.name (means.Typedef (typedef_meaning type r.0))
 
 -- ---- the end of a declaration
 

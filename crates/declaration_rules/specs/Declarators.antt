@@ -12,11 +12,14 @@ use Rattle.static_rules.specs.Answers.{Answer, ◌>>=◌, fault, fault_if, all}
 use Rattle.static_rules.specs.Layers.{DeclaratorLayer}
 use Rattle.static_rules.specs.Predefined.{is_given}
 use Rattle.static_rules.specs.Source.{Source, name_at}
-use Rattle.static_rules.specs.States.{State, Where, Made, new_scope, closed, symbol_here, with_symbol}
-use Rattle.static_rules.specs.States as m
+use Rattle.static_rules.specs.States.{new_scope, closed, symbol_here, with_symbol}
+use Rattle.static_rules.specs.declared.states.State.{State}
 use Rattle.declaration_rules.specs.Parts.{DeclaredName, Part, Star, Sized, Unsized, Takes, Around}
 use Rattle.declaration_rules.specs.Parts.{around, made, adjusted}
 use Rattle.declaration_rules.specs.Readers.{Readers, OfParameter, declarator_line}
+use Rattle.static_rules.specs.declared.states.Made.{Made}
+use Rattle.static_rules.specs.declared.states.Symbol.TheVariants as means
+use Rattle.static_rules.specs.declared.states.Where.{Where}
 
 -- An array has at least one element. A count that no object has is as good as any other such.
 abbrev pub count_of : ℕ → ℤ → Answer ℕ
@@ -40,7 +43,7 @@ module _ (source : Source) where
       record kind.1 { variables = kind.1.variables ++ record { kind = kind.0; line = 0; addressed = false } ∷ [] }
 
   abbrev pub parameter_named : Option DeclaredName → ℕ × State → State
-  parameter_named (Some name) kind = with_symbol (with_parameter kind) name.number (m.Variable_of (length kind.1.variables))
+  parameter_named (Some name) kind = with_symbol (with_parameter kind) name.number (means.Variable (length kind.1.variables))
   parameter_named None kind = with_parameter kind
 
   -- Of one declarator a name that is taken is told before its type.

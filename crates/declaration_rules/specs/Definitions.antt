@@ -1,6 +1,6 @@
 -- Definitions of functions (C11 6.9.1).
 use Rattle.std.specs.Prelude.{ℕ, zero, suc, ◌+◌, ◌==◌, ℤ, Bool, true, false, List, [], ◌∷◌, ◌++◌, length, map, Option}
-use Rattle.std.specs.Prelude.{Some, None, Ok, if◌then◌else◌, slice_get, slice_set}
+use Rattle.std.specs.Prelude.{Some, None, Ok, if◌then◌else◌}
 use Rattle.c_grammar.specs.declared.limits.TheConstants.{MAX_DEPTH}
 use Rattle.c_grammar.specs.declared.phrases.Declarator.{Declarator, out-Declarator}
 use Rattle.c_grammar.specs.declared.phrases.Declarator.TheOpen.{Declarator-F}
@@ -14,21 +14,26 @@ use Rattle.c_tree.specs.declared.program.Function.{Function}
 use Rattle.c_tree.specs.declared.program.Variable.{Variable}
 use Rattle.c_tree.specs.declared.statements.Block.{Block}
 use Rattle.c_tree.specs.declared.values.Value.{Value}
-use Rattle.well_typed.specs.Surroundings.{Signature}
+use Rattle.scoped_meanings.specs.Meanings.{declared_at, put_at}
 use Rattle.static_rules.specs.declared.faults.CheckKind.TheVariants as why
 use Rattle.static_rules.specs.declared.judged.Judged.{Judged}
 use Rattle.static_rules.specs.declared.judged.Operand.{Operand}
 use Rattle.static_rules.specs.Answers.{Answer, ◌>>=◌, fault, fault_if, or_mismatch}
 use Rattle.static_rules.specs.Layers.{DeclaratorLayer}
 use Rattle.static_rules.specs.Source.{Source, name_at, spelled}
-use Rattle.static_rules.specs.States.{State, Where, Made, Symbol, Declared, new_scope, closed, on_line}
-use Rattle.static_rules.specs.States as m
+use Rattle.static_rules.specs.States.{new_scope, closed, on_line}
+use Rattle.static_rules.specs.declared.states.State.{State}
 use Rattle.declaration_rules.specs.Parts.{DeclaredName, ParameterList, Part, Around, own_list}
 use Rattle.declaration_rules.specs.Parts.{declares_function, made}
 use Rattle.declaration_rules.specs.Readers.{Readers, OfDefinition, declarator_line}
 use Rattle.declaration_rules.specs.Agreement.{signature_of, function}
 use Rattle.declaration_rules.specs.Declarations.{declaration}
 use Rattle.declaration_rules.specs.Statements.{in_function_of, function_block}
+use Rattle.static_rules.specs.declared.states.DeclaredFunction.{DeclaredFunction}
+use Rattle.static_rules.specs.declared.states.Made.{Made}
+use Rattle.static_rules.specs.declared.states.Symbol.{Symbol}
+use Rattle.static_rules.specs.declared.states.Where.{Where}
+use Rattle.well_typed.specs.declared.signatures.Signature.{Signature}
 
 -- ---- the functions that a text defines, which calls may name before
 
@@ -74,10 +79,10 @@ with_parameters line list s = record s {
 -- ---- a definition
 
 -- A function that has a body has no second one (C11 6.9p3).
-abbrev pub defined_once : ℕ → ℕ → Declared → State → Answer State
+abbrev pub defined_once : ℕ → ℕ → DeclaredFunction → State → Answer State
 defined_once here number earlier s =
     fault_if earlier.defined why.Redefined here >>= λ new.
-    Ok (record s { functions = slice_set s.functions number (record earlier { defined = true }) })
+    Ok (record s { functions = put_at s.functions number (record earlier { defined = true }) })
 
 abbrev pub inside : Where → ℕ → State → Where
 inside w line s = new_scope (record w { line = line; in_function = true }) s
@@ -122,7 +127,7 @@ module _ (source : Source) (readers : Readers)
     -- It has a list of parameters of its own, which no typedef gives.
     abbrev pub definition_by : Where → Syntax → DeclaredName → ℕ → List Part → ℕ × State → Answer (Function × State)
     definition_by w f name here parts (number, s) =
-        or_mismatch here (slice_get s.functions number) >>= λ earlier. defined_once here number earlier s >>= λ after.
+        or_mismatch here (declared_at s.functions number) >>= λ earlier. defined_once here number earlier s >>= λ after.
         or_mismatch here (own_list parts) >>= λ list. body_of w f name list earlier.signature.result after
 
     abbrev pub definition_of : Where → Syntax → ℕ → Made → Around × State → Answer (Function × State)

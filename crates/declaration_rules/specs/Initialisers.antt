@@ -16,10 +16,11 @@ use Rattle.static_rules.specs.declared.judged.Operand.{Operand}
 use Rattle.static_rules.specs.declared.judged.Tree.{Tree}
 use Rattle.static_rules.specs.declared.judged.Tree.TheVariants as tree
 use Rattle.static_rules.specs.Answers.{Answer, ◌>>=◌, fault, all}
-use Rattle.static_rules.specs.States.{State, Where}
+use Rattle.static_rules.specs.declared.states.State.{State}
 use Rattle.declaration_rules.specs.Readers.{too_deep}
 use Rattle.declaration_rules.specs.Stores.{Step, To_member, To_element, kind_behind, Scalar, Copied, Bytes, Unfit}
 use Rattle.declaration_rules.specs.Stores.{Mismatch, Elided, Found, nothing, unfit, stored, then_found}
+use Rattle.static_rules.specs.declared.states.Where.{Where}
 
 -- ---- what fits
 

@@ -18,11 +18,18 @@ use Rattle.well_typed.specs.Kinds.{is_whole, has_size}
 use Rattle.static_rules.specs.Answers.{Answer}
 use Rattle.static_rules.specs.Predefined.{predefined_of}
 use Rattle.static_rules.specs.Source.{Source}
-use Rattle.static_rules.specs.States.{State, Made, Symbol, TagSymbol, Declared, GlobalSoFar}
-use Rattle.static_rules.specs.States as m
+use Rattle.static_rules.specs.declared.states.State.{State}
 use Rattle.static_rules.specs.Operands.{in_table}
 use Rattle.declaration_rules.specs.Readers.{Readers, type_phrase}
 use Rattle.declaration_rules.specs.Units.{file_scope}
+use Rattle.static_rules.specs.declared.states.DeclaredFunction.{DeclaredFunction}
+use Rattle.static_rules.specs.declared.states.GlobalSoFar.{GlobalSoFar}
+use Rattle.static_rules.specs.declared.states.Made.TheVariants as m
+use Rattle.static_rules.specs.declared.states.Made.{Made}
+use Rattle.static_rules.specs.declared.states.Symbol.TheVariants as means
+use Rattle.static_rules.specs.declared.states.Symbol.{Symbol}
+use Rattle.static_rules.specs.declared.states.TagSymbol.TheVariants as tagged
+use Rattle.static_rules.specs.declared.states.TagSymbol.{TagSymbol}
 
 -- ---- functions
 
@@ -104,9 +111,9 @@ with_entry None found rest = rest
 
 -- only that a typedef is a function's counts there: nothing that is made of it has a size
 abbrev pub named_symbol : Meaning → Option Symbol
-named_symbol (meaning.Typedef kind) = Some (m.Typedef (m.Known kind))
-named_symbol meaning.FunctionTypedef = Some (m.Typedef (m.Function (record { result = 1; parameters = [] })))
-named_symbol (meaning.Constant n) = Some (m.Constant n)
+named_symbol (meaning.Typedef kind) = Some (means.Typedef (m.Known kind))
+named_symbol meaning.FunctionTypedef = Some (means.Typedef (m.Function (record { result = 1; parameters = [] })))
+named_symbol (meaning.Constant n) = Some (means.Constant n)
 named_symbol (meaning.Tag kind) = None
 named_symbol meaning.EnumTag = None
 
@@ -115,8 +122,8 @@ is_union_by (Some (c.Union tag)) = true
 is_union_by other = false
 
 abbrev pub named_tag : Types → Meaning → Option TagSymbol
-named_tag types (meaning.Tag kind) = Some (m.Aggregate_of (is_union_by (kind_of types kind)) kind)
-named_tag types meaning.EnumTag = Some m.Enumeration
+named_tag types (meaning.Tag kind) = Some (tagged.Aggregate (is_union_by (kind_of types kind)) kind)
+named_tag types meaning.EnumTag = Some tagged.Enumeration
 named_tag types (meaning.Typedef kind) = None
 named_tag types meaning.FunctionTypedef = None
 named_tag types (meaning.Constant n) = None
@@ -129,10 +136,10 @@ renumbered source means (first ∷ rest) =
 abbrev pub function_symbols : Source → ℕ → List Function → List (ℕ × Symbol)
 function_symbols source n [] = []
 function_symbols source n (first ∷ rest) =
-    with_entry (number_in source first.name) (Some (m.Function_of n)) (function_symbols source (n + 1) rest)
+    with_entry (number_in source first.name) (Some (means.Function n)) (function_symbols source (n + 1) rest)
 
 abbrev pub if_visible : Bool → ℕ → Option Symbol
-if_visible true n = Some (m.Global_of n)
+if_visible true n = Some (means.Global n)
 if_visible false n = None
 
 abbrev pub global_symbols : Source → ℕ → List GlobalVariable → List (ℕ × Symbol)
@@ -144,9 +151,8 @@ abbrev pub number_or_zero : Option ℕ → ℕ
 number_or_zero (Some number) = number
 number_or_zero None = 0
 
-abbrev pub function_again : Source → ℕ → Function → Declared
-function_again source n function = record {
-  name = number_or_zero (number_in source function.name);
+abbrev pub function_again : ℕ → Function → DeclaredFunction
+function_again n function = record {
   signature = record {
     result = function.result;
     parameters = map (λ (variable : Variable). variable.kind) (take function.parameters function.variables);
@@ -155,13 +161,13 @@ function_again source n function = record {
   defined = true;
 }
 
-abbrev pub functions_again : Source → ℕ → List Function → List Declared
+abbrev pub functions_again : Source → ℕ → List Function → List (ℕ × DeclaredFunction)
 functions_again source n [] = []
-functions_again source n (first ∷ rest) = function_again source n first ∷ functions_again source (n + 1) rest
+functions_again source n (first ∷ rest) =
+    (number_or_zero (number_in source first.name), function_again n first) ∷ functions_again source (n + 1) rest
 
-abbrev pub global_again : Source → ℕ → GlobalVariable → GlobalSoFar
-global_again source n global = record {
-  name = number_or_zero (number_in source global.name);
+abbrev pub global_again : ℕ → GlobalVariable → GlobalSoFar
+global_again n global = record {
   kind = global.kind;
   line = global.line;
   named_at = global.line;
@@ -169,9 +175,10 @@ global_again source n global = record {
   initial = global.initial;
 }
 
-abbrev pub globals_again : Source → ℕ → List GlobalVariable → List GlobalSoFar
+abbrev pub globals_again : Source → ℕ → List GlobalVariable → List (ℕ × GlobalSoFar)
 globals_again source n [] = []
-globals_again source n (first ∷ rest) = global_again source n first ∷ globals_again source (n + 1) rest
+globals_again source n (first ∷ rest) =
+    (number_or_zero (number_in source first.name), global_again n first) ∷ globals_again source (n + 1) rest
 
 -- the state at the end of the text
 unfoldable pub state_behind : Source → Program → State

@@ -14,6 +14,7 @@ use Rattle.c_tree.specs.declared.program.Variable.{Variable}
 use Rattle.c_tree.specs.declared.statements.Initial.{Initial}
 use Rattle.c_tree.specs.declared.values.Place.TheVariants as p
 use Rattle.well_typed.specs.Kinds.{element, has_size}
+use Rattle.scoped_meanings.specs.Meanings.{declared_at, put_at}
 use Rattle.static_rules.specs.declared.faults.CheckKind.TheVariants as why
 use Rattle.static_rules.specs.declared.judged.Judged.{Judged}
 use Rattle.static_rules.specs.declared.judged.Operand.{Operand}
@@ -21,8 +22,8 @@ use Rattle.static_rules.specs.Answers.{Answer, ◌>>=◌, fault_if, or_bad_type}
 use Rattle.static_rules.specs.Operands.{in_types, in_table}
 use Rattle.static_rules.specs.Predefined.{is_given}
 use Rattle.static_rules.specs.Source.{Source}
-use Rattle.static_rules.specs.States.{State, Where, Made, GlobalSoFar, symbol_here, with_symbol, with_types}
-use Rattle.static_rules.specs.States as m
+use Rattle.static_rules.specs.States.{symbol_here, with_symbol, with_types}
+use Rattle.static_rules.specs.declared.states.State.{State}
 use Rattle.declaration_rules.specs.Parts.{open_element}
 use Rattle.declaration_rules.specs.Readers.{Readers}
 use Rattle.declaration_rules.specs.Declarators.{is_taken}
@@ -30,6 +31,10 @@ use Rattle.declaration_rules.specs.Stores.{at, placed, Mismatch, Found}
 use Rattle.declaration_rules.specs.Initialisers.{initial, counted}
 use Rattle.declaration_rules.specs.Agreement.{Introduced, function_named, global_named, only_global, agreeing}
 use Rattle.declaration_rules.specs.Agreement.{same_element, same_object, composite, repeated_global, first_global}
+use Rattle.static_rules.specs.declared.states.GlobalSoFar.{GlobalSoFar}
+use Rattle.static_rules.specs.declared.states.Made.{Made}
+use Rattle.static_rules.specs.declared.states.Symbol.TheVariants as means
+use Rattle.static_rules.specs.declared.states.Where.{Where}
 
 -- What a declarator gives beside names: the stores in a variable, whether what initialises it does not fit, which is
 -- told at the end of the declaration, and the bytes of an object of the whole text that is initialised.
@@ -82,7 +87,7 @@ with_variable w kind s = record s {
 
 -- Its name is known in its own initialiser (C11 6.2.1p7).
 unfoldable pub new_variable : Where → Introduced → ℕ → State → State
-new_variable w d kind s = with_symbol (with_variable w kind s) d.name (m.Variable_of (length s.variables))
+new_variable w d kind s = with_symbol (with_variable w kind s) d.name (means.Variable (length s.variables))
 
 abbrev pub variable_outcome : Where → ℕ → ℕ → Found → Outcome
 variable_outcome w number kind found = record {
@@ -95,11 +100,11 @@ variable_outcome w number kind found = record {
 
 abbrev pub with_global_of : ℕ → ℕ → List Initial → Option GlobalSoFar → State → State
 with_global_of number kind initial (Some global) s =
-    record s { globals = slice_set s.globals number (record global { kind = kind; initial = initial }) }
+    record s { globals = put_at s.globals number (record global { kind = kind; initial = initial }) }
 with_global_of number kind initial None s = s
 
 abbrev pub with_initial : ℕ → ℕ → List Initial → State → State
-with_initial number kind initial s = with_global_of number kind initial (slice_get s.globals number) s
+with_initial number kind initial s = with_global_of number kind initial (declared_at s.globals number) s
 
 abbrev pub global_outcome : Where → ℕ → ℕ → Found → State → Outcome × State
 global_outcome w number kind found s = (

@@ -12,10 +12,13 @@ use Rattle.well_typed.specs.Kinds.{element, is_aggregate, has_size}
 use Rattle.static_rules.specs.declared.faults.CheckKind.TheVariants as why
 use Rattle.static_rules.specs.declared.faults.Feature.TheVariants as feature
 use Rattle.static_rules.specs.Answers.{Answer, ◌>>=◌, fault, unless_bad}
-use Rattle.well_typed.specs.Surroundings.{Signature}
 use Rattle.static_rules.specs.Operands.{pointer_to, in_table}
-use Rattle.static_rules.specs.States.{State, Made, Symbol, TagSymbol}
-use Rattle.static_rules.specs.States as m
+use Rattle.static_rules.specs.declared.states.State.{State}
+use Rattle.static_rules.specs.declared.states.Made.TheVariants as m
+use Rattle.static_rules.specs.declared.states.Made.{Made}
+use Rattle.static_rules.specs.declared.states.Symbol.{Symbol}
+use Rattle.static_rules.specs.declared.states.TagSymbol.{TagSymbol}
+use Rattle.well_typed.specs.declared.signatures.Signature.{Signature}
 
 -- ---- what stands in a declarator
 

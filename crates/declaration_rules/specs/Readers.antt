@@ -9,8 +9,10 @@ use Rattle.static_rules.specs.declared.judged.Judged.{Judged}
 use Rattle.static_rules.specs.declared.faults.CheckKind.TheVariants as why
 use Rattle.static_rules.specs.Answers.{Answer, ◌>>=◌, fault}
 use Rattle.static_rules.specs.Layers.{DeclaratorLayer}
-use Rattle.static_rules.specs.States.{State, Where, Made}
+use Rattle.static_rules.specs.declared.states.State.{State}
 use Rattle.declaration_rules.specs.Parts.{Around, made}
+use Rattle.static_rules.specs.declared.states.Made.{Made}
+use Rattle.static_rules.specs.declared.states.Where.{Where}
 
 -- What specifiers belong to, on which it depends which storage words may stand among them.
 pub data Setting : Type 0 where

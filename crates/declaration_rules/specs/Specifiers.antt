@@ -27,13 +27,20 @@ use Rattle.static_rules.specs.Predefined.{declared}
 use Rattle.static_rules.specs.Source.{Source, name_at, spelled}
 use Rattle.static_rules.specs.Lines.{line_of}
 use Rattle.static_rules.specs.Operands.{in_table}
-use Rattle.static_rules.specs.States.{State, Where, Made, Symbol, TagSymbol, symbol_of, tag_of, tag_here, with_tag}
+use Rattle.static_rules.specs.States.{symbol_of, tag_of, tag_here, with_tag}
+use Rattle.static_rules.specs.declared.states.State.{State}
 use Rattle.static_rules.specs.States.{with_types}
-use Rattle.static_rules.specs.States as m
 use Rattle.declaration_rules.specs.Parts.{DeclaredName, Around, made}
 use Rattle.declaration_rules.specs.Readers.{Readers, Setting, OfDeclaration, OfDefinition, OfMember, OfParameter}
 use Rattle.declaration_rules.specs.Readers.{OfTypeName, declarator_line}
 use Rattle.declaration_rules.specs.Storage.{has_effect, storage_fault}
+use Rattle.static_rules.specs.declared.states.Made.TheVariants as m
+use Rattle.static_rules.specs.declared.states.Made.{Made}
+use Rattle.static_rules.specs.declared.states.Symbol.TheVariants as means
+use Rattle.static_rules.specs.declared.states.Symbol.{Symbol}
+use Rattle.static_rules.specs.declared.states.TagSymbol.TheVariants as tagged
+use Rattle.static_rules.specs.declared.states.TagSymbol.{TagSymbol}
+use Rattle.static_rules.specs.declared.states.Where.{Where}
 
 -- ---- the basic types
 
@@ -105,8 +112,8 @@ opened completes kind = record { kind = kind; completes = completes }
 
 -- A tag of this word that has no members yet may be completed.
 abbrev pub opened_again : State → Bool → TagSymbol → Opened
-opened_again s union_tag (m.Aggregate_of is kind) = opened (is_as is union_tag && not (has_size s.types kind)) kind
-opened_again s union_tag m.Enumeration = opened false 0
+opened_again s union_tag (tagged.Aggregate is kind) = opened (is_as is union_tag && not (has_size s.types kind)) kind
+opened_again s union_tag tagged.Enumeration = opened false 0
 
 module _ (source : Source) where
   -- the name of a tag, which is empty where it has none
@@ -120,7 +127,7 @@ module _ (source : Source) where
 
   -- a tag without a name is in no scope
   abbrev pub with_new_tag : State → Bool → Option ℕ → ℕ × Types → ℕ × State
-  with_new_tag s union_tag (Some name) r = (r.0, with_tag (with_types s r.1) name (m.Aggregate_of union_tag r.0))
+  with_new_tag s union_tag (Some name) r = (r.0, with_tag (with_types s r.1) name (tagged.Aggregate union_tag r.0))
   with_new_tag s union_tag None r = (r.0, with_types s r.1)
 
   -- a new type, which has no members yet
@@ -129,9 +136,9 @@ module _ (source : Source) where
 
   -- `struct NAME`: the tag that the name means, or a new one. One of another word is a second definition.
   abbrev pub tag_used : ℕ → State → Bool → ℕ → Option TagSymbol → Answer (ℕ × State)
-  tag_used here s union_tag name (Some (m.Aggregate_of is kind)) =
+  tag_used here s union_tag name (Some (tagged.Aggregate is kind)) =
       if is_as is union_tag then Ok (kind, s) else fault why.Redefined here
-  tag_used here s union_tag name (Some m.Enumeration) = fault why.Redefined here
+  tag_used here s union_tag name (Some tagged.Enumeration) = fault why.Redefined here
   tag_used here s union_tag name None = Ok (new_tag s union_tag (Some name))
 
   -- Alone in a declaration it is one of the innermost scope.
@@ -206,7 +213,7 @@ module _ (source : Source) where
 
     abbrev pub enumerator_of : Where → ℕ → ℕ → ℤ × State → Option Expression → Answer (ℤ × State)
     enumerator_of w here name next value =
-        enumerator_value w next.0 next.1 value >>= λ n. declared source w here n.1 name (m.Constant n.0) >>= λ after.
+        enumerator_value w next.0 next.1 value >>= λ n. declared source w here n.1 name (means.Constant n.0) >>= λ after.
         Ok (wrapped 6 (n.0 +ℤ pos 1), after)
 
     unfoldable pub enumerator : Where → ℤ × State → Enumerator → Answer (ℤ × State)
@@ -217,7 +224,7 @@ module _ (source : Source) where
     -- whether the tag is new in its scope
     abbrev pub enumeration_opened : State → ℕ → Option TagSymbol → Bool × State
     enumeration_opened s name (Some earlier) = (false, s)
-    enumeration_opened s name None = (true, with_tag s name m.Enumeration)
+    enumeration_opened s name None = (true, with_tag s name tagged.Enumeration)
 
     abbrev pub open_enumeration : Where → State → Option ℕ → Bool × State
     open_enumeration w s (Some name) = enumeration_opened s name (tag_here w s name)
@@ -231,8 +238,8 @@ module _ (source : Source) where
 
     -- `enum NAME` is one that was declared before (C11 6.7.2.3p2).
     abbrev pub enumeration_used : ℕ → State → Option TagSymbol → Answer (ℕ × State)
-    enumeration_used here s (Some m.Enumeration) = Ok (6, s)
-    enumeration_used here s (Some (m.Aggregate_of is kind)) = fault why.Redefined here
+    enumeration_used here s (Some tagged.Enumeration) = Ok (6, s)
+    enumeration_used here s (Some (tagged.Aggregate is kind)) = fault why.Redefined here
     enumeration_used here s None = fault why.Unknown here
 
     -- ---- one specifier behind others
@@ -245,7 +252,7 @@ module _ (source : Source) where
 
     -- a name that is a type where it stands (C11 6.7.8p3)
     abbrev pub typedef_used : ℕ → State → Option Symbol → Answer (Made × State)
-    typedef_used here s (Some (m.Typedef type)) = Ok (type, s)
+    typedef_used here s (Some (means.Typedef type)) = Ok (type, s)
     typedef_used here s (Some other) = fault why.Unknown here
     typedef_used here s None = fault why.Unknown here
 

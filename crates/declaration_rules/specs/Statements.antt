@@ -24,8 +24,10 @@ use Rattle.static_rules.specs.declared.judged.Judged.{Judged}
 use Rattle.static_rules.specs.declared.judged.Operand.{Operand}
 use Rattle.static_rules.specs.Answers.{Answer, ◌>>=◌, fault, fault_if, or_mismatch}
 use Rattle.static_rules.specs.Lines.{line_of}
-use Rattle.static_rules.specs.States.{State, Where, on_line, new_scope, closed}
+use Rattle.static_rules.specs.States.{on_line, new_scope, closed}
+use Rattle.static_rules.specs.declared.states.State.{State}
 use Rattle.declaration_rules.specs.Readers.{too_deep}
+use Rattle.static_rules.specs.declared.states.Where.{Where}
 
 -- What stands around a statement: the type of the function's result, whether a loop or a `switch` does, and the type of
 -- the innermost `switch` where the statement stands directly in its block.

@@ -9,8 +9,8 @@ use Rattle.static_rules.specs.declared.faults.CheckKind.{CheckKind}
 use Rattle.static_rules.specs.declared.faults.CheckKind.TheVariants as why
 use Rattle.static_rules.specs.declared.faults.Feature.TheVariants as feature
 use Rattle.static_rules.specs.Layers.{SpecifierLayer}
-use Rattle.static_rules.specs.States.{Where}
 use Rattle.declaration_rules.specs.Readers.{Setting, OfDeclaration, OfDefinition, OfMember, OfParameter, OfTypeName}
+use Rattle.static_rules.specs.declared.states.Where.{Where}
 
 abbrev pub is_typedef : Storage → Bool
 is_typedef word.Typedef = true

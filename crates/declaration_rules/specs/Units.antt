@@ -22,11 +22,19 @@ use Rattle.static_rules.specs.declared.judged.Operand.{Operand}
 use Rattle.static_rules.specs.Answers.{Answer, ◌>>=◌, fault_if}
 use Rattle.static_rules.specs.Predefined.{predefined_of}
 use Rattle.static_rules.specs.Source.{Source, spelled}
-use Rattle.static_rules.specs.States.{State, Where, Made, Symbol, TagSymbol, GlobalSoFar, symbol_of}
-use Rattle.static_rules.specs.States as m
+use Rattle.static_rules.specs.States.{symbol_of}
+use Rattle.static_rules.specs.declared.states.State.{State}
 use Rattle.declaration_rules.specs.Readers.{Readers}
 use Rattle.declaration_rules.specs.Declarations.{declaration}
 use Rattle.declaration_rules.specs.Definitions.{defined_names, definition}
+use Rattle.static_rules.specs.declared.states.GlobalSoFar.{GlobalSoFar}
+use Rattle.static_rules.specs.declared.states.Made.TheVariants as m
+use Rattle.static_rules.specs.declared.states.Made.{Made}
+use Rattle.static_rules.specs.declared.states.Symbol.TheVariants as means
+use Rattle.static_rules.specs.declared.states.Symbol.{Symbol}
+use Rattle.static_rules.specs.declared.states.TagSymbol.TheVariants as tagged
+use Rattle.static_rules.specs.declared.states.TagSymbol.{TagSymbol}
+use Rattle.static_rules.specs.declared.states.Where.{Where}
 
 -- ---- what the names of file scope mean that are no objects and no functions
 
@@ -37,13 +45,13 @@ typedef_named (m.Array of count) = None
 typedef_named (m.Open of) = None
 
 abbrev pub symbol_meaning : Symbol → Option Meaning
-symbol_meaning (m.Typedef type) = typedef_named type
-symbol_meaning (m.Constant n) = Some (meaning.Constant n)
+symbol_meaning (means.Typedef type) = typedef_named type
+symbol_meaning (means.Constant n) = Some (meaning.Constant n)
 symbol_meaning other = None
 
 abbrev pub tag_meaning : TagSymbol → Option Meaning
-tag_meaning (m.Aggregate_of union_tag kind) = Some (meaning.Tag kind)
-tag_meaning m.Enumeration = Some meaning.EnumTag
+tag_meaning (tagged.Aggregate union_tag kind) = Some (meaning.Tag kind)
+tag_meaning tagged.Enumeration = Some meaning.EnumTag
 
 abbrev pub with_named : Name → Option Meaning → List Named → List Named
 with_named name (Some one) rest = record { name = name; meaning = one } ∷ rest
@@ -63,14 +71,14 @@ names_since source before s =
 -- declaration
 
 abbrev pub names_global : ℕ → Option Symbol → Bool
-names_global number (Some (m.Global_of other)) = number == other
+names_global number (Some (means.Global other)) = number == other
 names_global number other = false
 
-abbrev pub global_variable : Source → State → ℕ → GlobalSoFar → GlobalVariable
-global_variable source s number global = record {
+abbrev pub global_variable : Source → State → ℕ → ℕ × GlobalSoFar → GlobalVariable
+global_variable source s number (name, global) = record {
   number = number;
-  name = spelled source global.name;
-  visible = names_global number (symbol_of s global.name);
+  name = spelled source name;
+  visible = names_global number (symbol_of s name);
   kind = global.kind;
   line = global.line;
   initial = global.initial;
@@ -81,10 +89,10 @@ has_order order (Some other) = order == other
 has_order order None = false
 
 -- those that are the first of an order
-abbrev pub of_order : Source → State → ℕ → ℕ → List GlobalSoFar → List GlobalVariable
+abbrev pub of_order : Source → State → ℕ → ℕ → List (ℕ × GlobalSoFar) → List GlobalVariable
 of_order source s order number [] = []
 of_order source s order number (global ∷ rest) =
-    if has_order order global.order then global_variable source s number global ∷ []
+    if has_order order global.1.order then global_variable source s number global ∷ []
     else of_order source s order (number + 1) rest
 
 abbrev pub defined_globals : Source → State → ℕ → ℕ → List GlobalVariable
@@ -93,17 +101,17 @@ defined_globals source s (suc count) order =
     of_order source s order 0 s.globals ++ defined_globals source s count (order + 1)
 
 -- one that is declared alone is zero, and has a size by the end of the text
-abbrev pub declared_by : Source → State → ℕ → GlobalSoFar → Option ℕ → Answer (List GlobalVariable) →
+abbrev pub declared_by : Source → State → ℕ → ℕ × GlobalSoFar → Option ℕ → Answer (List GlobalVariable) →
     Answer (List GlobalVariable)
 declared_by source s number global (Some order) rest = rest
 declared_by source s number global None rest =
-    fault_if (not (has_size s.types global.kind)) (why.BadType e.Incomplete) global.named_at >>= λ sized.
+    fault_if (not (has_size s.types global.1.kind)) (why.BadType e.Incomplete) global.1.named_at >>= λ sized.
     rest >>= λ more. Ok (global_variable source s number global ∷ more)
 
-abbrev pub declared_globals : Source → State → ℕ → List GlobalSoFar → Answer (List GlobalVariable)
+abbrev pub declared_globals : Source → State → ℕ → List (ℕ × GlobalSoFar) → Answer (List GlobalVariable)
 declared_globals source s number [] = Ok []
 declared_globals source s number (global ∷ rest) =
-    declared_by source s number global global.order (declared_globals source s (number + 1) rest)
+    declared_by source s number global global.1.order (declared_globals source s (number + 1) rest)
 
 unfoldable pub all_globals : Source → State → Answer (List GlobalVariable)
 all_globals source s =

@@ -32,10 +32,11 @@ use Rattle.static_rules.specs.Operators.{sized, unary, conditional, common}
 use Rattle.static_rules.specs.Places.{address}
 use Rattle.static_rules.specs.Plans.{planned, plan, sum, difference, equal, equal_pointers, ordered, computed, compared, logical}
 use Rattle.static_rules.specs.Sorts.{Arithmetic, Shift, Sum, Difference, Equality, Order, Logical}
-use Rattle.static_rules.specs.States.{State, Where}
+use Rattle.static_rules.specs.declared.states.State.{State}
 use Rattle.whole_numbers.specs.Operators.{outcome, unary_outcome}
 use Rattle.whole_numbers.specs.Types as w
 use Rattle.c_types.specs.Table.{shape_of}
+use Rattle.static_rules.specs.declared.states.Where.{Where}
 
 abbrev types : Types
 types = record { kinds = basic_kinds ++ t.Pointer 6 ∷ t.Pointer 1 ∷ t.Pointer 2 ∷ []; tags = [] }

@@ -15,7 +15,8 @@ use Rattle.well_typed.specs.Kinds.{is_whole, promoted, target}
 use Rattle.well_typed.specs.Surroundings.{at}
 use Rattle.static_rules.specs.Answers.{Answer, ◌>>=◌, fault, or_mismatch}
 use Rattle.static_rules.specs.Operands.{unknown, pointer_to, seen, to_whole, changed, converted}
-use Rattle.static_rules.specs.States.{State, Where}
+use Rattle.static_rules.specs.declared.states.State.{State}
+use Rattle.static_rules.specs.declared.states.Where.{Where}
 
 -- ---- arguments
 

@@ -23,7 +23,8 @@ use Rattle.well_typed.specs.Surroundings.{at, is_shift}
 use Rattle.static_rules.specs.Answers.{Answer, ◌>>=◌, fault, or_fault, or_mismatch}
 use Rattle.static_rules.specs.Operands.{unknown, valued, seen, to_whole, changed, converted, some_if}
 use Rattle.static_rules.specs.Sorts.{step_of}
-use Rattle.static_rules.specs.States.{State, Where}
+use Rattle.static_rules.specs.declared.states.State.{State}
+use Rattle.static_rules.specs.declared.states.Where.{Where}
 
 abbrev pub as_place : Tree → Option Place
 as_place (tree.Place q) = Some q

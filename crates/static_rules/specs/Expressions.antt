@@ -20,6 +20,7 @@ use Rattle.c_tree.specs.declared.operators.UnaryOperator.{UnaryOperator}
 use Rattle.c_tree.specs.declared.operators.UnaryOperator.TheVariants as sign
 use Rattle.c_tree.specs.declared.values.Value.{Value}
 use Rattle.c_tree.specs.declared.values.Value.TheVariants as v
+use Rattle.scoped_meanings.specs.Meanings.{declared_at}
 use Rattle.static_rules.specs.declared.faults.CheckKind.TheVariants as why
 use Rattle.static_rules.specs.declared.faults.Feature.TheVariants as feature
 use Rattle.static_rules.specs.declared.judged.Judged.{Judged}
@@ -41,8 +42,13 @@ use Rattle.static_rules.specs.Plans.{joined}
 use Rattle.static_rules.specs.Primaries.{constant_type, constant, named, string_type, string}
 use Rattle.static_rules.specs.Sorts.{operator_of, sort_of}
 use Rattle.static_rules.specs.Source.{Source, name_at, spelled, strings_between}
-use Rattle.static_rules.specs.States.{State, Where, Made, Symbol, Declared, symbol_of}
-use Rattle.static_rules.specs.States as m
+use Rattle.static_rules.specs.States.{symbol_of}
+use Rattle.static_rules.specs.declared.states.State.{State}
+use Rattle.static_rules.specs.declared.states.DeclaredFunction.{DeclaredFunction}
+use Rattle.static_rules.specs.declared.states.Made.{Made}
+use Rattle.static_rules.specs.declared.states.Symbol.TheVariants as means
+use Rattle.static_rules.specs.declared.states.Symbol.{Symbol}
+use Rattle.static_rules.specs.declared.states.Where.{Where}
 
 abbrev pub as_value : Operand × State → Judged × State
 as_value r = (value r.0, r.1)
@@ -181,13 +187,13 @@ module _ (source : Source) where
       of_types (kind ∷ kinds) = Kind kind ∷ of_types kinds
 
       -- a function of the text, which it defines somewhere: if not, its name is unknown
-      abbrev pub call_of : Where → ℕ → ℕ → State → Option Declared → Option ℕ → List Expression → Answer (Operand × State)
+      abbrev pub call_of : Where → ℕ → ℕ → State → Option DeclaredFunction → Option ℕ → List Expression → Answer (Operand × State)
       call_of w here named_at s (Some f) (Some n) es =
           arguments w s (of_types f.signature.parameters) es >>= λ r. answered w here r.1 r.0 >>= λ xs.
           Ok (unknown (v.Call (at w.line f.signature.result) n xs) f.signature.result, r.1)
       call_of w here named_at s f n es = fault why.Unknown named_at
 
-      abbrev pub number_by : Option Declared → Option ℕ
+      abbrev pub number_by : Option DeclaredFunction → Option ℕ
       number_by (Some f) = f.number
       number_by None = None
 
@@ -224,9 +230,9 @@ module _ (source : Source) where
 
       -- The name that is called, through parentheses, with its line, where a name is called.
       abbrev pub call_by : Where → ℕ → State → Expression → ℕ → List Expression → Option Symbol → Answer (Operand × State)
-      call_by w here s callee named_at es (Some (m.Function_of n)) =
-          call_of w here named_at s (slice_get s.functions n) (number_by (slice_get s.functions n)) es
-      call_by w here s callee named_at es (Some (m.Given_function which)) = given_call w here s which es
+      call_by w here s callee named_at es (Some (means.Function n)) =
+          call_of w here named_at s (declared_at s.functions n) (number_by (declared_at s.functions n)) es
+      call_by w here s callee named_at es (Some (means.Given which)) = given_call w here s which es
       call_by w here s callee named_at es _ = inner w s callee >>= λ f. call_of_other w here f.1 es
 
       abbrev pub call_node : Where → ℕ → State → Expression → Option (ℕ × ℕ) → List Expression → Answer (Judged × State)

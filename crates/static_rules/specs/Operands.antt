@@ -22,8 +22,10 @@ use Rattle.static_rules.specs.declared.plans.Seen.{Seen}
 use Rattle.well_typed.specs.Kinds.{is_whole, target, element, is_scalar, has_size}
 use Rattle.well_typed.specs.Surroundings.{ValueLayer, at}
 use Rattle.static_rules.specs.Constants.{known_as}
-use Rattle.static_rules.specs.States.{State, Made, with_types}
-use Rattle.static_rules.specs.States as made
+use Rattle.static_rules.specs.States.{with_types}
+use Rattle.static_rules.specs.declared.states.State.{State}
+use Rattle.static_rules.specs.declared.states.Made.TheVariants as m
+use Rattle.static_rules.specs.declared.states.Made.{Made}
 
 abbrev pub operand : Value → ℕ → Known → Operand
 operand value kind known = record { value = value; kind = kind; known = known }
@@ -48,10 +50,10 @@ pointer_to s to = in_types s (added (t.Pointer to) s.types)
 
 -- the number of what specifiers and a declarator make, where the table may have it: 0 for a function
 unfoldable pub in_table : State → Made → ℕ × State
-in_table s (made.Known kind) = (kind, s)
-in_table s (made.Array of count) = in_types s (added (t.Array of count) s.types)
-in_table s (made.Open of) = in_types s (added (t.Flexible of) s.types)
-in_table s (made.Function signature) = (0, s)
+in_table s (m.Known kind) = (kind, s)
+in_table s (m.Array of count) = in_types s (added (t.Array of count) s.types)
+in_table s (m.Open of) = in_types s (added (t.Flexible of) s.types)
+in_table s (m.Function signature) = (0, s)
 
 -- ---- what a place gives where its value is wanted
 

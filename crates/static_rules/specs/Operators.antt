@@ -22,7 +22,7 @@ use Rattle.static_rules.specs.Answers.{Answer, ◌>>=◌, fault, or_mismatch}
 use Rattle.static_rules.specs.Constants.{known_as, known_unary, known_not, known_conditional}
 use Rattle.static_rules.specs.Operands.{operand, seen, is_null, to_whole, changed, conversion, some_if}
 use Rattle.static_rules.specs.Primaries.{constant}
-use Rattle.static_rules.specs.States.{State}
+use Rattle.static_rules.specs.declared.states.State.{State}
 
 -- ---- `sizeof` (C11 6.5.3.4)
 

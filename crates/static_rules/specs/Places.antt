@@ -21,7 +21,7 @@ use Rattle.well_typed.specs.Kinds.{is_whole, target, sized_target, is_aggregate,
 use Rattle.well_typed.specs.Surroundings.{PlaceLayer, at}
 use Rattle.static_rules.specs.Answers.{Answer, ◌>>=◌, fault, or_fault, or_mismatch}
 use Rattle.static_rules.specs.Operands.{unknown, place, pointer_to, seen, some_if}
-use Rattle.static_rules.specs.States.{State}
+use Rattle.static_rules.specs.declared.states.State.{State}
 
 -- ---- through pointers, whose targets have a size
 

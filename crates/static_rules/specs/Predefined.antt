@@ -7,7 +7,12 @@ use Rattle.static_rules.specs.declared.symbols.BuiltIn.TheVariants as given
 use Rattle.static_rules.specs.declared.faults.CheckKind.TheVariants as why
 use Rattle.static_rules.specs.Answers.{Answer, fault}
 use Rattle.static_rules.specs.Source.{Source, spelled}
-use Rattle.static_rules.specs.States.{State, Where, Symbol, Given_function, Null, Typedef, Known, symbol_here, with_symbol}
+use Rattle.static_rules.specs.States.{symbol_here, with_symbol}
+use Rattle.static_rules.specs.declared.states.State.{State}
+use Rattle.static_rules.specs.declared.states.Made.TheVariants as m
+use Rattle.static_rules.specs.declared.states.Symbol.TheVariants as means
+use Rattle.static_rules.specs.declared.states.Symbol.{Symbol}
+use Rattle.static_rules.specs.declared.states.Where.{Where}
 
 abbrev pub Table : Type 0 → Type 0
 Table A = List (Name × A)
@@ -35,15 +40,15 @@ or_else (Some x) other = Some x
 or_else None other = other
 
 abbrev pub as_function : Option BuiltIn → Option Symbol
-as_function (Some which) = Some (Given_function which)
+as_function (Some which) = Some (means.Given which)
 as_function None = None
 
 abbrev pub as_typedef : Option ℕ → Option Symbol
-as_typedef (Some kind) = Some (Typedef (Known kind))
+as_typedef (Some kind) = Some (means.Typedef (m.Known kind))
 as_typedef None = None
 
 abbrev pub as_null : Name → Option Symbol
-as_null name = if bytes_eq (codes "NULL") name then Some Null else None
+as_null name = if bytes_eq (codes "NULL") name then Some means.Null else None
 
 -- what a name means in every text
 unfoldable pub predefined : Name → Option Symbol

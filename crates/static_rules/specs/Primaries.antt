@@ -8,6 +8,7 @@ use Rattle.c_tree.specs.declared.limits.TheConstants.{MAX_INITIALISED_BYTES}
 use Rattle.c_tree.specs.declared.program.Variable.{Variable}
 use Rattle.c_tree.specs.declared.values.Place.TheVariants as p
 use Rattle.c_tree.specs.declared.values.Value.TheVariants as v
+use Rattle.scoped_meanings.specs.Meanings.{declared_at}
 use Rattle.static_rules.specs.declared.faults.CheckKind.TheVariants as why
 use Rattle.static_rules.specs.declared.faults.Feature.TheVariants as feature
 use Rattle.static_rules.specs.declared.judged.Judged.{Judged}
@@ -15,8 +16,13 @@ use Rattle.static_rules.specs.declared.judged.Known.TheVariants as known
 use Rattle.well_typed.specs.Surroundings.{at}
 use Rattle.static_rules.specs.Answers.{Answer, ◌>>=◌, fault, fault_if, or_bad_type}
 use Rattle.static_rules.specs.Operands.{operand, place, value, pointer_to, in_table}
-use Rattle.static_rules.specs.States.{State, Where, Symbol, GlobalSoFar, symbol_of, with_types}
-use Rattle.static_rules.specs.States as m
+use Rattle.static_rules.specs.States.{symbol_of, with_types}
+use Rattle.static_rules.specs.declared.states.State.{State}
+use Rattle.static_rules.specs.declared.states.GlobalSoFar.{GlobalSoFar}
+use Rattle.static_rules.specs.declared.states.Made.TheVariants as m
+use Rattle.static_rules.specs.declared.states.Symbol.TheVariants as means
+use Rattle.static_rules.specs.declared.states.Symbol.{Symbol}
+use Rattle.static_rules.specs.declared.states.Where.{Where}
 
 -- ---- constants and names
 
@@ -53,14 +59,14 @@ abbrev pub null : ℕ → ℕ × State → Judged × State
 null line r = (value (operand (v.Null (at line r.0)) r.0 known.NullPointer), r.1)
 
 abbrev pub named_by : ℕ → ℕ → State → Option Symbol → Answer (Judged × State)
-named_by line here s (Some (m.Variable_of n)) = variable_by line here n s (slice_get s.variables n)
-named_by line here s (Some (m.Global_of n)) = global_by line here n s (slice_get s.globals n)
-named_by line here s (Some (m.Function_of n)) = fault (why.LeftOut feature.FunctionPointer) here
-named_by line here s (Some (m.Given_function which)) = fault (why.LeftOut feature.FunctionPointer) here
-named_by line here s (Some m.Null) = Ok (null line (pointer_to s 1))
-named_by line here s (Some (m.Constant n)) = Ok (constant line 6 n, s)
+named_by line here s (Some (means.Variable n)) = variable_by line here n s (slice_get s.variables n)
+named_by line here s (Some (means.Global n)) = global_by line here n s (declared_at s.globals n)
+named_by line here s (Some (means.Function n)) = fault (why.LeftOut feature.FunctionPointer) here
+named_by line here s (Some (means.Given which)) = fault (why.LeftOut feature.FunctionPointer) here
+named_by line here s (Some means.Null) = Ok (null line (pointer_to s 1))
+named_by line here s (Some (means.Constant n)) = Ok (constant line 6 n, s)
 -- the grammar lets no type stand here
-named_by line here s (Some (m.Typedef t)) = fault why.TypeMismatch here
+named_by line here s (Some (means.Typedef t)) = fault why.TypeMismatch here
 named_by line here s None = fault why.Unknown here
 
 -- A name is a variable, an object of the whole text, an enumeration constant or `NULL` (C11 6.5.1p2, 6.4.4.3).

@@ -15,7 +15,8 @@ use Rattle.static_rules.specs.Lines.{line_of}
 use Rattle.static_rules.specs.Operands.{valued}
 use Rattle.static_rules.specs.Primaries.{string_type}
 use Rattle.static_rules.specs.Source.{Source}
-use Rattle.static_rules.specs.States.{State, Where}
+use Rattle.static_rules.specs.declared.states.State.{State}
+use Rattle.static_rules.specs.declared.states.Where.{Where}
 
 abbrev pub number_known : ℕ → State → Known → Answer (ℤ × State)
 number_known here s (known.Number n) = Ok (n, s)

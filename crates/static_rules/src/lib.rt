@@ -5,9 +5,11 @@
 mod faults;
 mod judged;
 mod plans;
+mod states;
 mod symbols;
 
 pub use faults::{CheckError, CheckKind, Feature};
 pub use judged::{Judged, Known, Operand, Tree};
 pub use plans::{Casting, Change, Choice, Indexing, Joint, Plan, Seen, Stepping, Updating};
+pub use states::{DeclaredFunction, GlobalSoFar, Made, State, Symbol, TagSymbol, Where};
 pub use symbols::BuiltIn;

@@ -7,7 +7,8 @@ use Rattle.c_types.specs.Table.{Types, basic_kinds, kind_of, shape_of, members}
 use Rattle.c_tree.specs.declared.program.Variable.{Variable}
 use Rattle.whole_numbers.specs.Types as w
 use Rattle.well_typed.specs.Kinds.{is_scalar, target, element, promoted, wrapped, has_size, is_aggregate, sized_target}
-use Rattle.well_typed.specs.Surroundings.{Signature, Surroundings, HasMember}
+use Rattle.well_typed.specs.Surroundings.{Surroundings, HasMember}
+use Rattle.well_typed.specs.declared.signatures.Signature.{Signature}
 
 -- 10 `int *`, 11 `void *`, 12 `struct S { int a; long b; }`, 13 `struct S *`, 14 `int[3]`, 15 `int[]`, 16 `char[4]`
 unfoldable pub types : Types

@@ -11,7 +11,8 @@ use Rattle.c_tree.specs.declared.statements.Statement.{Statement}
 use Rattle.c_tree.specs.declared.values.Place.{Place}
 use Rattle.c_tree.specs.declared.values.Value.{Value}
 use Rattle.well_typed.specs.Kinds.{is_scalar, is_aggregate, has_size, target, sized_target, element}
-use Rattle.well_typed.specs.Surroundings.{Signature, Surroundings, IsSeenAs}
+use Rattle.well_typed.specs.Surroundings.{Surroundings, IsSeenAs}
+use Rattle.well_typed.specs.declared.signatures.Signature.{Signature}
 use Rattle.well_typed.specs.Expressions.{IsPlace, IsValue}
 use Rattle.well_typed.specs.Initialisers.{Declared, Variables, Global, AreInitials}
 use Rattle.well_typed.specs.Statements.{Position, IsStatement, IsBlock}

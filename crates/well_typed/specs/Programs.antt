@@ -14,7 +14,8 @@ use Rattle.c_tree.specs.declared.program.Named.{Named}
 use Rattle.c_tree.specs.declared.program.Program.{Program}
 use Rattle.c_tree.specs.Limits.{IsWithinLimits}
 use Rattle.well_typed.specs.Kinds.{is_aggregate, is_scalar, has_size, wrapped}
-use Rattle.well_typed.specs.Surroundings.{Signature, Surroundings}
+use Rattle.well_typed.specs.Surroundings.{Surroundings}
+use Rattle.well_typed.specs.declared.signatures.Signature.{Signature}
 use Rattle.well_typed.specs.Effects.{acts_in_initial}
 use Rattle.well_typed.specs.Initialisers.{Global, AreInitials}
 use Rattle.well_typed.specs.Statements.{Position, IsBlock, variables_in_block}

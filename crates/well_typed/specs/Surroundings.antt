@@ -16,6 +16,7 @@ use Rattle.c_tree.specs.declared.program.Variable.{Variable}
 use Rattle.c_tree.specs.declared.values.At.{At}
 use Rattle.c_tree.specs.declared.values.Place.{Place, Place-F}
 use Rattle.c_tree.specs.declared.values.Value.{Value, Value-F}
+use Rattle.well_typed.specs.declared.signatures.Signature.{Signature}
 use Rattle.well_typed.specs.Kinds.{is_whole, promoted, target, sized_target, is_aggregate, is_scalar, has_size}
 
 -- ---- one layer of a tree
@@ -30,11 +31,6 @@ abbrev pub at : ℕ → ℕ → At
 at line kind = record { kind = kind; line = line }
 
 -- ---- what may be named
-
--- the type of a function (C11 6.7.6.3)
-pub record Signature : Type 0 where
-  pub result : ℕ
-  pub parameters : List ℕ
 
 -- The types of the program, those of its functions, the variables of the function, the numbers of those in scope (C11
 -- 6.2.1p4), the type of a global by its number, and the types of the string literals. Outside functions there are no

@@ -3,5 +3,7 @@
 #![tactic(auto)]
 
 mod laws;
+mod signatures;
 
 pub use laws::law_grows;
+pub use signatures::Signature;

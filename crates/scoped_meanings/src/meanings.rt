@@ -1,0 +1,161 @@
+//! Names with their meanings.
+
+ghost use Rattle.std.specs.Prelude.{
+  ◌≡◌,
+  ◌<◌,
+  [],
+  ◌∷◌,
+  ◌++◌,
+  length,
+  take,
+  slice_get,
+  OnOk,
+  OnErr,
+  OnSome,
+  IfSome,
+};
+ghost use Rattle.std.specs.Option.{option_copied};
+ghost use Rattle.scoped_meanings.specs.Meanings as spec;
+
+use scoped_names::Names;
+use sqlite_items::Items;
+use std::alloc::{AllocError, Global};
+use std::marker::Model;
+
+/// Names, each of them a number, with their meanings, in the order of their declarations: contracts see the list. A
+/// look-up, a declaration and taking the last one back take constant time each, and a look-up is as fast for chosen names
+/// as for others.
+#[derive(Drop)]
+pub struct Meanings<A> {
+    names: Names,
+    entries: Items<(u32, A)>,
+}
+
+impl<A> Model for Meanings<A> {
+    ghost use Rattle.std.specs.Prelude.{List, ℕ, ◌≡◌};
+
+    ghost Value = { List (ℕ × A) };
+
+    ghost use Rattle.scoped_meanings.specs.Meanings.{names_of};
+
+    ghost view = { λ m. m.entries };
+
+    ghost invariant = { λ m. m.names ≡ names_of m.entries };
+}
+
+/// Takes all items off but the first `start`.
+fn shorten<T: Drop>(items: &mut Items<T>, start: usize)
+    ensures { items.new ≡ take start items.old }
+{
+    while items.len() > start {
+        items.pop();
+    }
+}
+
+impl<A> Meanings<A> {
+    /// No names, which take no memory.
+    pub fn new(alloc: Global) -> Meanings<A>
+        ensures { result ≡ [] }
+    {
+        Meanings {
+            names: Names::new(alloc),
+            entries: Items::new(alloc),
+        }
+    }
+
+    /// How many declarations there are.
+    pub fn len(&self) -> usize
+        ensures { result ≡ length self.now }
+    {
+        self.entries.len()
+    }
+
+    /// The last place at which a name was declared.
+    pub fn find(&self, name: u32) -> Option<usize>
+        ensures { result ≡ spec.place_of self.now name }
+    {
+        self.names.find(name)
+    }
+
+    /// What was declared at a place.
+    pub fn get(&self, place: usize) -> Option<&A>
+        ensures value { option_copied result ≡ spec.declared_at self.now place }
+        ensures within { OnSome result (place < length self.now) }
+    {
+        match self.entries.get(place) {
+            Some(entry) => Some(&entry.1),
+            None => None,
+        }
+    }
+
+    /// The name that was declared at a place.
+    pub fn name(&self, place: usize) -> u32
+        requires { place < length self.now }
+        ensures { IfSome (slice_get self.now place) (λ entry. entry.0 ≡ result) }
+    {
+        self.names.name(place)
+    }
+
+    /// What a name means.
+    #[tactic(auto, unfolding(crate::specs::Meanings::meaning))]
+    pub fn meaning(&self, name: u32) -> Option<&A>
+        ensures { option_copied result ≡ spec.meaning self.now name }
+    {
+        match self.names.find(name) {
+            Some(place) => self.get(place),
+            None => None,
+        }
+    }
+
+    /// What a name means by a declaration of the innermost scope, which `before` declarations stand before.
+    #[tactic(auto, unfolding(crate::specs::Meanings::meaning_here))]
+    pub fn meaning_here(&self, before: usize, name: u32) -> Option<&A>
+        ensures { option_copied result ≡ spec.meaning_here before self.now name }
+    {
+        match self.names.find(name) {
+            Some(place) => {
+                if before <= place {
+                    self.get(place)
+                } else {
+                    None
+                }
+            }
+            None => None,
+        }
+    }
+}
+
+impl<A: Drop> Meanings<A> {
+    /// Declares a name behind all others.
+    pub fn declare(&mut self, name: u32, meaning: A) -> Result<(), AllocError>
+        ensures ok { OnOk result (self.new ≡ self.old ++ (name, meaning) ∷ []) }
+        ensures err { OnErr result (self.new ≡ self.old) }
+    {
+        self.names.declare(name)?;
+        match self.entries.push((name, meaning)) {
+            Ok(()) => Ok(()),
+            Err(error) => {
+                let start = self.entries.len();
+                self.names.close(start);
+                Err(error)
+            }
+        }
+    }
+
+    /// Writes another meaning for what was declared at a place.
+    pub fn set(&mut self, place: usize, meaning: A)
+        requires { place < length self.old }
+        ensures { self.new ≡ spec.put_at self.old place meaning }
+    {
+        let name = self.names.name(place);
+        self.entries.set(place, (name, meaning));
+    }
+
+    /// Takes all declarations back but the first `start`.
+    pub fn close(&mut self, start: usize)
+        ensures { self.new ≡ take start self.old }
+    {
+        shorten(&mut self.entries, start);
+        self.names.close(start);
+    }
+}
