@@ -23,7 +23,7 @@ module _ {A : Type 0} where
   name-here entries place name entry here found =
       some-is name entry.0
       (sym here ∙ slice_get-map (λ (entry : ℕ × A). entry.0) entries place
-       ∙ ap (λ (x : Option (ℕ × A)). option_map (λ (entry : ℕ × A). entry.0) x) found)
+      ∙ ap (λ (x : Option (ℕ × A)). option_map (λ (entry : ℕ × A). entry.0) x) found)
 
   -- so this is what is written
   pub put_at-is : (entries : List (ℕ × A)) (place name : ℕ) (meaning : A) → slice_get (names_of entries) place ≡ Some name →
@@ -36,4 +36,4 @@ module _ {A : Type 0} where
     put_at-by entries place name meaning None found here =
         absurd (none-some name
         (sym (ap (λ (x : Option (ℕ × A)). option_map (λ (entry : ℕ × A). entry.0) x) found)
-         ∙ sym (slice_get-map (λ (entry : ℕ × A). entry.0) entries place) ∙ here))
+        ∙ sym (slice_get-map (λ (entry : ℕ × A). entry.0) entries place) ∙ here))
