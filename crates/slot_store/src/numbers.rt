@@ -17,16 +17,17 @@ pub(crate) fn read_number(bytes: &[u8], at: usize, width: u32) -> u64
     requires inside { at + width ≤ length bytes.now }
     ensures { result ≡ number_at bytes.now at width }
 {
-    match width {
-        1 => u64::from(bytes[at]),
-        2 => u64::from(u16::from_le_bytes([bytes[at], bytes[at + 1]])),
-        4 => u64::from(u32::from_le_bytes([
-            bytes[at],
-            bytes[at + 1],
-            bytes[at + 2],
-            bytes[at + 3],
-        ])),
-        _ => u64::from_le_bytes([
+    // Two comparisons for each width.
+    if width < 4 {
+        if width == 1 {
+            u64::from(bytes[at])
+        } else {
+            u64::from(u16::from_le_bytes([bytes[at], bytes[at + 1]]))
+        }
+    } else if width == 4 {
+        u64::from(u32::from_le_bytes([bytes[at], bytes[at + 1], bytes[at + 2], bytes[at + 3]]))
+    } else {
+        u64::from_le_bytes([
             bytes[at],
             bytes[at + 1],
             bytes[at + 2],
@@ -35,7 +36,7 @@ pub(crate) fn read_number(bytes: &[u8], at: usize, width: u32) -> u64
             bytes[at + 5],
             bytes[at + 6],
             bytes[at + 7],
-        ]),
+        ])
     }
 }
 
@@ -47,10 +48,15 @@ pub(crate) fn write_number(bytes: &mut [u8], at: usize, width: u32, number: u64)
     ensures here { number_at bytes.new at width ≡ number % 2 ^ (8 * width) }
     ensures elsewhere { (k : ℕ) → (k < at) ⊎ (at + width ≤ k) → slice_index bytes.new k ≡ slice_index bytes.old k }
 {
-    match width {
-        1 => bytes[at] = (number % 0x100) as u8,
-        2 => bytes[at..at + 2].copy_from_slice(&((number % 0x1_0000) as u16).to_le_bytes()),
-        4 => bytes[at..at + 4].copy_from_slice(&((number % 0x1_0000_0000) as u32).to_le_bytes()),
-        _ => bytes[at..at + 8].copy_from_slice(&number.to_le_bytes()),
+    if width < 4 {
+        if width == 1 {
+            bytes[at] = (number % 0x100) as u8;
+        } else {
+            bytes[at..at + 2].copy_from_slice(&((number % 0x1_0000) as u16).to_le_bytes());
+        }
+    } else if width == 4 {
+        bytes[at..at + 4].copy_from_slice(&((number % 0x1_0000_0000) as u32).to_le_bytes());
+    } else {
+        bytes[at..at + 8].copy_from_slice(&number.to_le_bytes());
     }
 }

@@ -1,10 +1,10 @@
 //! A page of memory: bytes, with a mark for each word of eight that holds a pointer.
 
-ghost use Rattle.std.specs.Prelude.{◌≡◌, ◌+◌, ◌/◌, ◌%◌, ◌<◌, ◌≤◌, false, true, slice_index_or, slice_set, IfOk};
+ghost use Rattle.std.specs.Prelude.{◌≡◌, ◌+◌, ◌/◌, ◌%◌, ◌<◌, ◌≤◌, false, slice_index_or, slice_set, IfOk};
 ghost use Rattle.slot_store.specs.Cells.{IsWidth};
 ghost use Rattle.slot_store.specs.Pages.{page_words, page_bytes};
 ghost use Rattle.slot_store.specs.Words.{zero_word, zero_words, bits_at, with_bits};
-ghost use Rattle.slot_store.specs.Words.{number_in_word, with_number};
+ghost use Rattle.slot_store.specs.Words.{unmarked, number_in_word, with_number};
 
 use crate::numbers::{law_bytes, read_number, write_number};
 use slot_headers::Value;
@@ -18,11 +18,128 @@ pub(crate) const PAGE_BYTES: usize = 65536;
 pub(crate) const PAGE_WORDS: usize = 8192;
 
 /// The bytes of a page, and for each word whether it holds a pointer. They are one piece of memory, so that one look-up
-/// finds both.
+/// finds both, and a load or a store looks it up once.
 #[derive(Drop)]
 struct Frame {
     bytes: [u8; PAGE_BYTES],
     marks: [bool; PAGE_WORDS],
+}
+
+impl Model for Frame {
+    ghost use Rattle.std.specs.Prelude.{◌≡◌, List, length};
+    ghost use Rattle.slot_headers.specs.declared.value.Value.{Value as Word};
+    ghost use Rattle.slot_store.specs.Pages.{words_of, page_bytes, page_words};
+
+    ghost Value = { List Word };
+
+    ghost view = { λ f. words_of f.bytes f.marks };
+
+    ghost invariant = { λ f. (length f.bytes ≡ page_bytes) × (length f.marks ≡ page_words) };
+}
+
+impl Frame {
+    /// A word and its mark.
+    #[inline]
+    fn get(&self, word: usize) -> Value
+        requires { word < page_words }
+        ensures { result ≡ slice_index_or self.now word result }
+    {
+        Value {
+            bits: read_number(&self.bytes, 8 * word, 8),
+            pointer: self.marks[word],
+        }
+    }
+
+    /// Writes a word and its mark.
+    #[inline]
+    fn set(&mut self, word: usize, value: Value)
+        requires { word < page_words }
+        ensures { self.new ≡ slice_set self.old word value }
+    {
+        self.marks[word] = value.pointer;
+        write_number(&mut self.bytes, 8 * word, 8, value.bits);
+    }
+
+    /// Whether a word holds a pointer.
+    #[inline]
+    fn is_marked(&self, word: usize) -> bool
+        requires { word < page_words }
+        ensures { result ≡ (slice_index_or self.now word zero_word).pointer }
+    {
+        self.marks[word]
+    }
+
+    /// Makes a word zero if it holds a pointer.
+    #[inline]
+    fn unmark(&mut self, word: usize)
+        requires { word < page_words }
+        ensures { self.new ≡ slice_set self.old word (unmarked (slice_index_or self.old word zero_word)) }
+    {
+        if self.is_marked(word) {
+            self.set(
+                word,
+                Value {
+                    bits: 0,
+                    pointer: false,
+                },
+            );
+        }
+    }
+
+    /// The number of so many bytes of a word, from one of its bytes on.
+    #[inline]
+    fn read(&self, at: usize, width: u32) -> u64
+        requires place { at < page_bytes }
+        requires width { IsWidth width }
+        requires inside { at % 8 + width ≤ 8 }
+        ensures { result ≡ bits_at (at % 8) width (slice_index_or self.now (at / 8) zero_word).bits }
+    {
+        law_bytes(&self.bytes);
+        read_number(&self.bytes, at, width)
+    }
+
+    /// Writes so many bytes of a word that holds no pointer, from one of its bytes on.
+    #[inline]
+    fn write(&mut self, at: usize, width: u32, number: u64)
+        requires place { at < page_bytes }
+        requires width { IsWidth width }
+        requires inside { at % 8 + width ≤ 8 }
+        requires plain { (slice_index_or self.old (at / 8) zero_word).pointer ≡ false }
+        ensures { let old = slice_index_or self.old (at / 8) zero_word in
+            let new = with_bits (at % 8) width number old.bits in
+            self.new ≡ slice_set self.old (at / 8) (record { bits = new; pointer = false }) }
+    {
+        law_bytes(&self.bytes);
+        write_number(&mut self.bytes, at, width, number);
+    }
+
+    /// The number of so many bytes of a word, from one of its bytes on, and none where the word holds a pointer.
+    #[inline]
+    fn load(&self, at: usize, width: u32) -> Option<u64>
+        requires place { at < page_bytes }
+        requires width { IsWidth width }
+        requires inside { at % 8 + width ≤ 8 }
+        ensures { result ≡ number_in_word (at % 8) width (slice_index_or self.now (at / 8) zero_word) }
+    {
+        if self.is_marked(at / 8) {
+            return None;
+        }
+        Some(self.read(at, width))
+    }
+
+    /// Writes so many bytes of a word, from one of its bytes on. Where the word holds a pointer it becomes zero first.
+    #[inline]
+    fn store(&mut self, at: usize, width: u32, number: u64)
+        requires place { at < page_bytes }
+        requires width { IsWidth width }
+        requires inside { at % 8 + width ≤ 8 }
+        ensures { let old = slice_index_or self.old (at / 8) zero_word in
+            self.new ≡ slice_set self.old (at / 8) (with_number (at % 8) width number old) }
+    {
+        let _bytes = &self.bytes;
+        self.unmark(at / 8);
+        self.write(at, width, number);
+    }
 }
 
 /// The words of a page with their marks.
@@ -32,15 +149,12 @@ pub(crate) struct Page {
 }
 
 impl Model for Page {
-    ghost use Rattle.std.specs.Prelude.{◌≡◌, List, length};
+    ghost use Rattle.std.specs.Prelude.{List};
     ghost use Rattle.slot_headers.specs.declared.value.Value.{Value as Word};
-    ghost use Rattle.slot_store.specs.Pages.{words_of, page_bytes, page_words};
 
     ghost Value = { List Word };
 
-    ghost view = { λ p. words_of p.frame.value.bytes p.frame.value.marks };
-
-    ghost invariant = { λ p. (length p.frame.value.bytes ≡ page_bytes) × (length p.frame.value.marks ≡ page_words) };
+    ghost view = { λ p. p.frame.value };
 }
 
 impl Page {
@@ -65,11 +179,7 @@ impl Page {
         requires { word < page_words }
         ensures { result ≡ slice_index_or self.now word result }
     {
-        let frame = &*self.frame;
-        Value {
-            bits: read_number(&frame.bytes, 8 * word, 8),
-            pointer: frame.marks[word],
-        }
+        self.frame.get(word)
     }
 
     /// Writes a word and its mark.
@@ -78,48 +188,7 @@ impl Page {
         requires { word < page_words }
         ensures { self.new ≡ slice_set self.old word value }
     {
-        let frame = &mut *self.frame;
-        frame.marks[word] = value.pointer;
-        write_number(&mut frame.bytes, 8 * word, 8, value.bits);
-    }
-
-    /// Whether a word holds a pointer.
-    #[inline]
-    fn is_marked(&self, word: usize) -> bool
-        requires { word < page_words }
-        ensures { result ≡ (slice_index_or self.now word zero_word).pointer }
-    {
-        let frame = &*self.frame;
-        frame.marks[word]
-    }
-
-    /// The number of so many bytes of a word, from one of its bytes on.
-    #[inline]
-    fn read(&self, at: usize, width: u32) -> u64
-        requires place { at < page_bytes }
-        requires width { IsWidth width }
-        requires inside { at % 8 + width ≤ 8 }
-        ensures { result ≡ bits_at (at % 8) width (slice_index_or self.now (at / 8) zero_word).bits }
-    {
-        let frame = &*self.frame;
-        law_bytes(&frame.bytes);
-        read_number(&frame.bytes, at, width)
-    }
-
-    /// Writes so many bytes of a word that holds no pointer, from one of its bytes on.
-    #[inline]
-    fn write(&mut self, at: usize, width: u32, number: u64)
-        requires place { at < page_bytes }
-        requires width { IsWidth width }
-        requires inside { at % 8 + width ≤ 8 }
-        requires plain { (slice_index_or self.old (at / 8) zero_word).pointer ≡ false }
-        ensures { let old = slice_index_or self.old (at / 8) zero_word in
-            let new = with_bits (at % 8) width number old.bits in
-            self.new ≡ slice_set self.old (at / 8) (record { bits = new; pointer = false }) }
-    {
-        let frame = &mut *self.frame;
-        law_bytes(&frame.bytes);
-        write_number(&mut frame.bytes, at, width, number);
+        self.frame.set(word, value);
     }
 
     /// The number of so many bytes of a word, from one of its bytes on, and none where the word holds a pointer.
@@ -130,31 +199,7 @@ impl Page {
         requires inside { at % 8 + width ≤ 8 }
         ensures { result ≡ number_in_word (at % 8) width (slice_index_or self.now (at / 8) zero_word) }
     {
-        if self.is_marked(at / 8) {
-            return None;
-        }
-        Some(self.read(at, width))
-    }
-
-    /// Writes so many bytes of a word that holds a pointer, and makes it zero first. This is rare, and the last thing that
-    /// a store does, so that a store keeps nothing across a call.
-    #[cold]
-    #[inline(never)]
-    fn store_over_pointer(&mut self, at: usize, width: u32, number: u64)
-        requires place { at < page_bytes }
-        requires width { IsWidth width }
-        requires inside { at % 8 + width ≤ 8 }
-        requires marked { (slice_index_or self.old (at / 8) zero_word).pointer ≡ true }
-        ensures { let old = slice_index_or self.old (at / 8) zero_word in
-            self.new ≡ slice_set self.old (at / 8) (with_number (at % 8) width number old) }
-    {
-        let _frame = &self.frame;
-        let zero = Value {
-            bits: 0,
-            pointer: false,
-        };
-        self.set(at / 8, zero);
-        self.write(at, width, number);
+        self.frame.load(at, width)
     }
 
     /// Writes so many bytes of a word, from one of its bytes on. Where the word holds a pointer it becomes zero first.
@@ -166,10 +211,6 @@ impl Page {
         ensures { let old = slice_index_or self.old (at / 8) zero_word in
             self.new ≡ slice_set self.old (at / 8) (with_number (at % 8) width number old) }
     {
-        if self.is_marked(at / 8) {
-            self.store_over_pointer(at, width, number);
-        } else {
-            self.write(at, width, number);
-        }
+        self.frame.store(at, width, number);
     }
 }

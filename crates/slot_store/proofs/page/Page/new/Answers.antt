@@ -1,9 +1,7 @@
-use Rattle.std.proofs.Common.{ap}
-use Rattle.slot_store.specs.declared.page.Frame.{Frame}
+use Rattle.std.proofs.Common.{◌∙◌, refl, false}
+use Rattle.std.specs.Prelude.{replicate}
 use Rattle.slot_store.proofs.Paging.{words_of_zeros}
 use Rattle.slot_store.proofs.page.Page.new.Goals as goal
 
 pub returns : goal.returns
-returns c =
-    let frame : Frame = c.in_ok-frame.frame.value in
-    words_of_zeros frame.bytes frame.marks (ap (λ (f : Frame). f.bytes) c.in_ok-frame.ensures.ok) (ap (λ (f : Frame). f.marks) c.in_ok-frame.ensures.ok)
+returns c = c.in_ok-frame.ensures.ok ∙ words_of_zeros (replicate 65536 0) (replicate 8192 false) refl refl
