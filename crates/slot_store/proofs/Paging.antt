@@ -8,7 +8,7 @@ use Rattle.std.proofs.lemmas.List.{length-append, length-set, set-set, length-re
 use Rattle.std.proofs.lemmas.List.FromFn.{length-map-range_with_len, get_or-map-range_with_len}
 use Rattle.std.proofs.lemmas.Grind.{flat_map-append}
 use Rattle.slot_headers.specs.declared.value.Value.{Value}
-use Rattle.slot_store.specs.Words.{zero_word, zero_words, bits_at, with_bits, unmarked, with_number}
+use Rattle.slot_store.specs.Words.{zero_word, zero_words, bits_at, with_bits, with_number}
 use Rattle.slot_store.specs.Numbers.{AreBytes, number_at}
 use Rattle.slot_store.specs.Pages.{word_at, words_of, joined, page_at, AreWhole}
 use Rattle.slot_store.proofs.Reading.{number_at-same, number_at-zeros, bits_at-number_at, with_bits-number_at}
@@ -124,6 +124,10 @@ word_written bs cs ms words at w n small view place inside plain here elsewhere 
     wider : (k : ℕ) → (k < 8 * (at / 8)) ⊎ (8 * (at / 8) + 8 ≤ k) → (k < at) ⊎ (at + w ≤ k)
     wider k (inl before) = inl (omega arith)
     wider k (inr after) = inr (omega arith)
+
+-- a word as it is when a whole number is stored in it: zero if it holds a pointer
+abbrev unmarked : Value → Value
+unmarked v = cond v.pointer zero_word v
 
 -- a word that becomes zero if it holds a pointer, and then gets other bytes
 bits-unmarked : (p : Bool) (v : Value) → (cond p zero_word v).bits ≡ cond p 0 v.bits

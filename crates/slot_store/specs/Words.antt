@@ -27,10 +27,6 @@ with_bits b w new n =
 abbrev pub number_in_word : ℕ → ℕ → Value → Option ℕ
 number_in_word b w v = if v.pointer then None else Some (bits_at b w v.bits)
 
--- a word as it is when a whole number is stored in it: zero if it holds a pointer
-abbrev pub unmarked : Value → Value
-unmarked v = if v.pointer then zero_word else v
-
 -- the word with w bytes of a number in place of those at b
 abbrev pub with_number : ℕ → ℕ → ℕ → Value → Value
 with_number b w n v = record { bits = with_bits b w n (if v.pointer then 0 else v.bits); pointer = false }

@@ -1,10 +1,10 @@
 //! A page of memory: bytes, with a mark for each word of eight that holds a pointer.
 
-ghost use Rattle.std.specs.Prelude.{◌≡◌, ◌+◌, ◌/◌, ◌%◌, ◌<◌, ◌≤◌, false, slice_index_or, slice_set, IfOk};
+ghost use Rattle.std.specs.Prelude.{◌≡◌, ◌+◌, ◌/◌, ◌%◌, ◌<◌, ◌≤◌, false, true, slice_index_or, slice_set, IfOk};
 ghost use Rattle.slot_store.specs.Cells.{IsWidth};
 ghost use Rattle.slot_store.specs.Pages.{page_words, page_bytes};
 ghost use Rattle.slot_store.specs.Words.{zero_word, zero_words, bits_at, with_bits};
-ghost use Rattle.slot_store.specs.Words.{unmarked, number_in_word, with_number};
+ghost use Rattle.slot_store.specs.Words.{number_in_word, with_number};
 
 use crate::numbers::{law_bytes, read_number, write_number};
 use slot_headers::Value;
@@ -69,23 +69,6 @@ impl Frame {
         self.marks[word]
     }
 
-    /// Makes a word zero if it holds a pointer.
-    #[inline]
-    fn unmark(&mut self, word: usize)
-        requires { word < page_words }
-        ensures { self.new ≡ slice_set self.old word (unmarked (slice_index_or self.old word zero_word)) }
-    {
-        if self.is_marked(word) {
-            self.set(
-                word,
-                Value {
-                    bits: 0,
-                    pointer: false,
-                },
-            );
-        }
-    }
-
     /// The number of so many bytes of a word, from one of its bytes on.
     #[inline]
     fn read(&self, at: usize, width: u32) -> u64
@@ -127,6 +110,27 @@ impl Frame {
         Some(self.read(at, width))
     }
 
+    /// Writes so many bytes of a word that holds a pointer, and makes it zero first. This is rare, and the last thing that
+    /// a store does, so that a store keeps nothing across a call.
+    #[cold]
+    #[inline(never)]
+    fn store_over_pointer(&mut self, at: usize, width: u32, number: u64)
+        requires place { at < page_bytes }
+        requires width { IsWidth width }
+        requires inside { at % 8 + width ≤ 8 }
+        requires marked { (slice_index_or self.old (at / 8) zero_word).pointer ≡ true }
+        ensures { let old = slice_index_or self.old (at / 8) zero_word in
+            self.new ≡ slice_set self.old (at / 8) (with_number (at % 8) width number old) }
+    {
+        let _bytes = &self.bytes;
+        let zero = Value {
+            bits: 0,
+            pointer: false,
+        };
+        self.set(at / 8, zero);
+        self.write(at, width, number);
+    }
+
     /// Writes so many bytes of a word, from one of its bytes on. Where the word holds a pointer it becomes zero first.
     #[inline]
     fn store(&mut self, at: usize, width: u32, number: u64)
@@ -136,9 +140,11 @@ impl Frame {
         ensures { let old = slice_index_or self.old (at / 8) zero_word in
             self.new ≡ slice_set self.old (at / 8) (with_number (at % 8) width number old) }
     {
-        let _bytes = &self.bytes;
-        self.unmark(at / 8);
-        self.write(at, width, number);
+        if self.is_marked(at / 8) {
+            self.store_over_pointer(at, width, number);
+        } else {
+            self.write(at, width, number);
+        }
     }
 }
 

@@ -1,4 +1,4 @@
-use Rattle.std.proofs.Common.{◌≡◌, ◌∙◌, ap, sym, false, get_or}
+use Rattle.std.proofs.Common.{◌∙◌, ap, sym, false, get_or}
 use Rattle.slot_store.proofs.Paging.{word_seen}
 use Rattle.slot_store.proofs.page.Frame.get.Goals as goal
 

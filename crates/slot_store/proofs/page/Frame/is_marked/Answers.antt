@@ -1,4 +1,4 @@
-use Rattle.std.proofs.Common.{◌≡◌, ◌∙◌, ap, sym}
+use Rattle.std.proofs.Common.{ap, sym}
 use Rattle.slot_store.specs.Words.{zero_word}
 use Rattle.slot_store.proofs.Paging.{word_seen}
 use Rattle.slot_store.proofs.page.Frame.is_marked.Goals as goal

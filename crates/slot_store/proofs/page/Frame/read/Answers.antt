@@ -1,4 +1,4 @@
-use Rattle.std.proofs.Common.{◌≡◌, ◌∙◌, ap}
+use Rattle.std.proofs.Common.{◌∙◌}
 use Rattle.slot_store.proofs.Paging.{word_read}
 use Rattle.slot_store.proofs.page.Frame.read.Goals as goal
 

@@ -1,4 +1,4 @@
-use Rattle.std.proofs.Common.{◌≡◌, ◌∙◌, ap, arith}
+use Rattle.std.proofs.Common.{arith}
 use Rattle.slot_store.proofs.Paging.{value_written}
 use Rattle.slot_store.proofs.page.Frame.set.Goals as goal
 

@@ -1,4 +1,3 @@
-use Rattle.std.proofs.Common.{◌≡◌, ◌∙◌, ap}
 use Rattle.slot_store.proofs.Paging.{word_written}
 use Rattle.slot_store.proofs.page.Frame.write.Goals as goal
 
