@@ -1,0 +1,2 @@
+mod Arities
+mod LastItems
