@@ -166,9 +166,9 @@ impl Slots {
         requires taken { number < length self.old.states }
         requires live { is_some (state_at self.old.states number).body ≡ true }
         ensures { self.new ≡ record {
-            count = self.old.count;
-            states = set self.old.states number (without_object (state_at self.old.states number));
-            resting = last_resting self.old.count (self.old.resting ++ number ∷ []);
+          count = self.old.count;
+          states = set self.old.states number (without_object (state_at self.old.states number));
+          resting = last_resting self.old.count (self.old.resting ++ number ∷ []);
         } }
     {
         let row = &mut self.rows[number as usize];
@@ -197,9 +197,9 @@ impl Slots {
         requires within { (o : Body ℕ) → (state_at self.old.states number).body ≡ Some o → offset + width ≤ length o.cells }
         ensures { (o : Body ℕ) → (state_at self.old.states number).body ≡ Some o
             → self.new ≡ record {
-                count = self.old.count;
-                states = set self.old.states number (with_cells_of (state_at self.old.states number) o (model.put offset (model.bytes width bits) (model.without_pointer offset o.cells)));
-                resting = self.old.resting;
+              count = self.old.count;
+              states = set self.old.states number (with_cells_of (state_at self.old.states number) o (model.put offset (model.bytes width bits) (model.without_pointer offset o.cells)));
+              resting = self.old.resting;
             } }
     {
         let row = &mut self.rows[number as usize];
