@@ -12,7 +12,7 @@ use Rattle.heap_model.specs.declared.calls.Reply.{Reply}
 use Rattle.region_heaps.specs.Entries.{StampsFrom}
 use Rattle.plain_meaning.specs.Acts.{Ends}
 use Rattle.plain_meaning.specs.Reported.{ReportedLaw}
-use Rattle.plain_meaning.specs.Run.{Run, preferred, replies_of, worker}
+use Rattle.plain_meaning.specs.Run.{Run, layouts, replies_of, worker}
 use Rattle.plain_meaning.specs.declared.record.Ending.{Ending}
 use Rattle.plain_meaning.specs.declared.record.Ending.TheVariants.{Finished, Spent, Reported}
 use Rattle.plain_meaning.specs.declared.record.Record.{Record}
@@ -89,15 +89,15 @@ knows_types law program setting run r =
 -- ---- histories
 
 -- a history that the heap may give, with its numbers and stamps
-pub is_history : ChecksLaw → AccessesLaw → (history : List Entry) → IsLegal preferred history → IsWellNumbered history → IsStamped history
+pub is_history : ChecksLaw → AccessesLaw → (history : List Entry) → IsLegal layouts history → IsWellNumbered history → IsStamped history
     → StampsFrom 1 history → IsHistory history
 is_history checks accesses history legal numbered stamped stamps = record {
   legal = legal;
   numbered = numbered;
   stamped = stamped;
   stamps = stamps;
-  checks = λ before later e word want is. checks preferred before later e word want (subst (λ h. IsLegal preferred h) is legal);
-  accesses = λ before later e at is. accesses preferred before later e at (subst (λ h. IsLegal preferred h) is legal);
+  checks = λ before later e word want is. checks layouts before later e word want (subst (λ h. IsLegal layouts h) is legal);
+  accesses = λ before later e at is. accesses layouts before later e at (subst (λ h. IsLegal layouts h) is legal);
 }
 
 pub run_history : ChecksLaw → AccessesLaw → (program : Program) (setting : Setting) (run : Record) → Run program setting run

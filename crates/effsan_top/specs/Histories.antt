@@ -12,14 +12,14 @@ use Rattle.plain_meaning.specs.declared.record.Ending.TheVariants.{Reported}
 use Rattle.plain_meaning.specs.declared.record.Record.{Record}
 use Rattle.plain_meaning.specs.declared.record.Report.{Report}
 use Rattle.plain_meaning.specs.Reported.{IsShown}
-use Rattle.plain_meaning.specs.Run.{preferred}
+use Rattle.plain_meaning.specs.Run.{layouts}
 
 -- Each check has one of four answers by its cause, at the heap that the entries before it leave: its word is null, it names no live
 -- object, nothing there matches the type, or these are the preferred bounds.
 abbrev pub ChecksAreAnswered : List Entry → Type 0
 ChecksAreAnswered history =
     (before later : List Entry) (e : Entry) (word want : ℕ) → history ≡ before ++ e ∷ later
-    → e.call ≡ Check word want → IsCheckReply preferred (replay empty before) word want e.reply
+    → e.call ≡ Check word want → IsCheckReply layouts (replay empty before) word want e.reply
 
 -- Each access that was performed, that is, got another reply than a report, is inside its reach and inside the live object
 -- that its word names, as the heap stood before it.
@@ -31,7 +31,7 @@ AccessesAreInside history =
 -- What a record keeps is a history of the one-thread typed heap. Each worker's calls are numbered in their order, and the stamps
 -- are 1, 2, 3 and so on.
 pub record IsHistory (history : List Entry) : Type 0 where
-  pub legal : IsLegal preferred history
+  pub legal : IsLegal layouts history
   pub numbered : IsWellNumbered history
   pub stamped : IsStamped history
   pub stamps : StampsFrom 1 history

@@ -8,10 +8,11 @@ use Rattle.std.proofs.lemmas.List.Sums.{passes_at_first}
 use Rattle.std.specs.List.{position_or_len, AllByRecursion}
 use Rattle.lowfat_regions.specs.Regions.{header_bytes, Slot, IsSlot, is_slot, slot_of, slot_in, region_of, size_of, sizes, class_of, slots, slot_address}
 use Rattle.slot_headers.specs.Words.{address_of, version_of}
-use Rattle.heap_model.specs.Cells.{Cell, zeros, Act, Loads, Stores, Adds, Number, Pointer, Datum, put, without_pointer, cells_after_store, cells_after_add, access_cells, number_in, width, cells_at}
+use Rattle.slot_headers.specs.Cells.{Cell, zeros, put, without_pointer, number_in, cells_at}
+use Rattle.heap_model.specs.Cells.{Act, Loads, Stores, Adds, Number, Pointer, Datum, cells_after_store, cells_after_add, access_cells, width}
 use Rattle.heap_model.specs.Heap.{Object, empty, live_count, dead_count, made_count, with_new, with_dead, with_cells, with_cells_if}
 use Rattle.heap_model.specs.Answers.{Name, Words, is_in, is_at, names, slot_at, offset, datum, new_object, next}
-use Rattle.heap_model.specs.Preference.{Preference}
+use Rattle.heap_model.specs.Layouts.{Layouts}
 use Rattle.heap_model.specs.Forms.{region_for}
 use Rattle.heap_model.specs.Legal.{MayPlace, AllocAnswers, Answers, after, IsLegalFrom, IsLegal, replay, covers, IsApart}
 use Rattle.heap_model.proofs.Counts.{live_count-made, live_count-died, made_count-died, live_count-cells}
@@ -210,8 +211,8 @@ sound-placed h r worker number elem size word fixed home m s =
           (simp length-replicate (class-room size r home)));
     })
 
-module _ (preferred : Preference) where
-  pub sound-next : (worker number : ℕ) (h : Words) (r : ℕ) (call : Call) (reply : Reply) → region_for call ≡ Some r → Answers preferred h r call reply → IsSound h → IsSound (next worker number h call reply)
+module _ (layouts : Layouts) where
+  pub sound-next : (worker number : ℕ) (h : Words) (r : ℕ) (call : Call) (reply : Reply) → region_for call ≡ Some r → Answers layouts h r call reply → IsSound h → IsSound (next worker number h call reply)
   unfolding next Answers AllocAnswers region_for
   sound-next worker number h r (Alloc elem size fixed) (Placed word) home a s = sound-placed h r worker number elem size word fixed home a.1 s
   sound-next worker number h r (Free p fixed) Done home a s = sound-died (names (address_of p) p) h s
@@ -219,7 +220,7 @@ module _ (preferred : Preference) where
   sound-next worker number h r (Add p reach kind n) (Moved v) home a s = sound-cells (names reach.lo p) (access_cells (offset reach.lo p) kind (Adds n)) (length-access_cells _ kind (Adds n)) h s
   sound-next worker number h r _ _ home a s = s
 
-  pub sound-replay : (h : Words) (es : List Entry) → IsLegalFrom preferred h es → IsSound h → IsSound (replay h es)
+  pub sound-replay : (h : Words) (es : List Entry) → IsLegalFrom layouts h es → IsSound h → IsSound (replay h es)
   sound-replay h [] l s = s
   sound-replay h (e ∷ es) l s = sound-replay (after h e) es l.1 (sound-next e.worker e.number h e.region e.call e.reply l.0.region_is l.0.answers s)
 
@@ -273,5 +274,5 @@ IsApart-from h s = record { live = λ a. go a (slot_of a) refl; versions = s.one
 pub sound-empty : IsSound empty
 sound-empty = record { one_live = λ t. omega arith; no_higher = λ t v above. refl; one_version = λ t v. omega arith; room = tt }
 
-pub law : (preferred : Preference) (history : List Entry) → IsLegal preferred history → IsApart (replay empty history)
-law preferred history l = IsApart-from (replay empty history) (sound-replay preferred empty history l sound-empty)
+pub law : (layouts : Layouts) (history : List Entry) → IsLegal layouts history → IsApart (replay empty history)
+law layouts history l = IsApart-from (replay empty history) (sound-replay layouts empty history l sound-empty)

@@ -2,7 +2,7 @@
 use Rattle.std.proofs.Common.{◌≡◌, ℕ, zero, suc, ◌+◌, ◌-◌, ◌≤◌, List, [], ◌∷◌, length, take, drop, replicate, refl, ap, ◌∙◌, arith, drop-drop, take-take}
 use Rattle.std.proofs.lemmas.List.{drop-take}
 use Rattle.std.specs.List.{AllByRecursion}
-use Rattle.heap_model.specs.Cells.{Cell, put, cells_at}
+use Rattle.slot_headers.specs.Cells.{Cell, put, cells_at}
 
 -- ---- every cell
 

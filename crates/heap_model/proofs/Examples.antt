@@ -7,10 +7,11 @@ use Rattle.lowfat_regions.specs.Regions.{Slot, slot_of, slot_in, region_of, size
 use Rattle.slot_headers.specs.Words.{address_of, version_of}
 use Rattle.heap_model.specs.Objects.{offset_in}
 use Rattle.heap_model.specs.Reaches.{narrow, inside, may_escape, same_slot, slot_bounds, moved}
-use Rattle.heap_model.specs.Cells.{Number, Byte, Gave, Refused, Loads, parts, zeros, access_outcome, access_report, load_outcome, cells_after_store, without_pointer, put, sign_extension}
+use Rattle.slot_headers.specs.Cells.{Byte, parts, zeros, without_pointer, put}
+use Rattle.heap_model.specs.Cells.{Number, Gave, Refused, Loads, access_outcome, access_report, load_outcome, cells_after_store, sign_extension}
 use Rattle.heap_model.specs.Heap.{empty, is_full, resting}
 use Rattle.heap_model.specs.Answers.{answer_by, access, next, offset, region, slot_at, first_byte, is_in}
-use Rattle.heap_model.specs.Preference.{Preference}
+use Rattle.heap_model.specs.Layouts.{Layouts}
 use Rattle.heap_model.specs.Forms.{region_for, suits_call}
 use Rattle.heap_model.specs.Legal.{IsLegal, Answers, AllocAnswers, MayPlace, replay}
 use Rattle.heap_model.specs.declared.calls.AccessKind.TheVariants.{I8, U8, I32, I64, Ptr, Word}
@@ -44,16 +45,16 @@ rested =
     entry 0 (Alloc 8 24 false) (Placed w1) ∷ entry 1 (Free w1 false) Done
     ∷ entry 2 (Alloc 8 24 false) (Placed w2) ∷ entry 3 (Load w1 whole I32) (Report Freed) ∷ []
 
-rested-legal : (preferred : Preference) → IsLegal preferred rested
+rested-legal : (layouts : Layouts) → layouts.has 8 ≡ true → IsLegal layouts rested
 unfolding answer_by access next offset slot_at first_byte Answers AllocAnswers region_for is_full slot_of slot_in region_of size_of sizes first_multiple slots slot_address address_of version_of offset_in class_of
-rested-legal preferred = (
-  record { fits = refl; region_is = refl; answers = (refl, record { slot = record { region = 2; number = 0 }; slot_is = refl; of_region = refl; address = refl; no_live = refl; rested = refl; version = refl }) },
+rested-legal layouts has = (
+  record { fits = refl; types = has; region_is = refl; answers = (refl, record { slot = record { region = 2; number = 0 }; slot_is = refl; of_region = refl; address = refl; no_live = refl; rested = refl; version = refl }) },
   (
-    record { fits = refl; region_is = refl; answers = refl },
+    record { fits = refl; types = refl; region_is = refl; answers = refl },
     (
-      record { fits = refl; region_is = refl; answers = (refl, record { slot = record { region = 2; number = 1 }; slot_is = refl; of_region = refl; address = refl; no_live = refl; rested = refl; version = refl }) },
+      record { fits = refl; types = has; region_is = refl; answers = (refl, record { slot = record { region = 2; number = 1 }; slot_is = refl; of_region = refl; address = refl; no_live = refl; rested = refl; version = refl }) },
       (
-        record { fits = refl; region_is = refl; answers = refl },
+        record { fits = refl; types = refl; region_is = refl; answers = refl },
         tt,
       ),
     ),

@@ -6,7 +6,7 @@ use Rattle.std.proofs.lemmas.List.Sorted.{IsPermutation-refl, IsPermutation-sym,
 use Rattle.std.specs.List.{AllByRecursion}
 use Rattle.lowfat_regions.specs.Regions.{IsRegion}
 use Rattle.heap_model.specs.Heap.{empty}
-use Rattle.heap_model.specs.Preference.{Preference}
+use Rattle.heap_model.specs.Layouts.{Layouts}
 use Rattle.heap_model.specs.Legal.{of_region, InRegions}
 use Rattle.heap_model.specs.Order.{before, Rises, StampsRise, IsMerge, ArePasses}
 use Rattle.heap_model.specs.Extension.{entries_up_to, all_entries, IsExtension, ExtensionLaw}
@@ -254,14 +254,14 @@ sort-rises (e ∷ es) stamps =
 
 -- ---- the law
 
-module _ (preferred : Preference) (parts passes : ℕ → List Entry) (k : ArePasses preferred parts passes) where
+module _ (layouts : Layouts) (parts passes : ℕ → List Entry) (k : ArePasses layouts parts passes) where
   homes : (r : ℕ) → AllByRecursion (λ e. e.region ≡ r) (parts r)
   homes r =
       all-from_classes (λ e. e.worker) (λ e. e.region ≡ r) (parts r)
       (λ w. subst (AllByRecursion (λ e. e.region ≡ r)) (sym (k.same w r)) (all-pass r (passes w)))
 
   inside : (r : ℕ) → InRegions (parts r)
-  inside r = legal-regions preferred empty (parts r) (k.legal r)
+  inside r = legal-regions layouts empty (parts r) (k.legal r)
 
   by_region : (r : ℕ) → of_region r (all_entries parts) ≡ parts r
   by_region r = all-is parts homes inside r
@@ -279,10 +279,10 @@ module _ (preferred : Preference) (parts passes : ℕ → List Entry) (k : ArePa
       (λ r. subst (AllByRecursion (λ e. IsRegion e.region)) (sym (merged.regions r))
       (in_regions-all (parts r) (inside r))))
 
-  extension : IsExtension preferred parts passes (sort (all_entries parts))
+  extension : IsExtension layouts parts passes (sort (all_entries parts))
   extension = record {
     merges = merged;
-    recorded = merge.law preferred parts passes (sort (all_entries parts)) k merged merged-inside;
+    recorded = merge.law layouts parts passes (sort (all_entries parts)) k merged merged-inside;
     only =
         λ other m. same_by_regions other (sort (all_entries parts)) m.order merged.order
         (λ r. m.regions r ∙ sym (merged.regions r));
@@ -292,4 +292,4 @@ module _ (preferred : Preference) (parts passes : ℕ → List Entry) (k : ArePa
   }
 
 pub extension_law : ExtensionLaw
-extension_law preferred parts passes k = (sort (all_entries parts), extension preferred parts passes k)
+extension_law layouts parts passes k = (sort (all_entries parts), extension layouts parts passes k)

@@ -3,7 +3,7 @@ use Rattle.std.proofs.Common.{◌≡◌, ℕ, ◌<◌, Bool, true, false, cond, 
 use Rattle.std.proofs.lemmas.Bool.{cases_eq, or_left, lt-ltb}
 use Rattle.std.specs.List.{AllByRecursion}
 use Rattle.heap_model.specs.Heap.{empty}
-use Rattle.heap_model.specs.Preference.{Preference}
+use Rattle.heap_model.specs.Layouts.{Layouts}
 use Rattle.heap_model.specs.Legal.{own, of_region, IsLegal, CountsFrom, IsWellNumbered, InRegions}
 use Rattle.heap_model.specs.Order.{before, Rises, StampsRise, IsMerge, ArePasses, IsRecord}
 use Rattle.heap_model.proofs.Lists.{filter-comm}
@@ -96,17 +96,17 @@ Rises-own w (e ∷ es) rise = go (e.worker == w)
     go true all rest = (all, rest)
     go false all rest = rest
 
-pub own-is : (preferred : Preference) (parts passes : ℕ → List Entry) (history : List Entry) → ArePasses preferred parts passes → IsMerge parts history → (w : ℕ) → own history w ≡ passes w
-own-is preferred parts passes history k m w =
+pub own-is : (layouts : Layouts) (parts passes : ℕ → List Entry) (history : List Entry) → ArePasses layouts parts passes → IsMerge parts history → (w : ℕ) → own history w ≡ passes w
+own-is layouts parts passes history k m w =
     same_by_regions (own history w) (passes w) (Rises-own w history m.order) (Rises-from (passes w) (k.pass_stamps w))
     (λ r. filter-comm (λ e. e.region == r) (λ e. e.worker == w) history ∙ ap (λ es. own es w) (m.regions r) ∙ k.same w r)
 
-pub law : (preferred : Preference) (parts passes : ℕ → List Entry) (history : List Entry) → ArePasses preferred parts passes → IsMerge parts history → InRegions history → IsRecord preferred passes history
-law preferred parts passes history k m in' =
-    let o = own-is preferred parts passes history k m in
+pub law : (layouts : Layouts) (parts passes : ℕ → List Entry) (history : List Entry) → ArePasses layouts parts passes → IsMerge parts history → InRegions history → IsRecord layouts passes history
+law layouts parts passes history k m in' =
+    let o = own-is layouts parts passes history k m in
     let n : IsWellNumbered history = λ w. subst (CountsFrom 0) (sym (o w)) (k.numbers w) in
     record {
-      legal = joined preferred empty history in' (λ r lo hi. subst (IsLegal preferred) (sym (m.regions r)) (k.legal r));
+      legal = joined layouts empty history in' (λ r lo hi. subst (IsLegal layouts) (sym (m.regions r)) (k.legal r));
       numbered = n;
       stamped = record {
         workers = λ w. subst StampsRise (sym (o w)) (k.pass_stamps w);

@@ -5,9 +5,10 @@ use Rattle.std.proofs.lemmas.Bool.{leb-true, eqb-true, and_parts}
 use Rattle.std.proofs.lemmas.Option.{same_Some, none-some}
 use Rattle.type_layout.specs.declared.preference.Bounds as bounds
 use Rattle.slot_headers.specs.Words.{address_of, version_of}
-use Rattle.heap_model.specs.Cells.{Act, Loads, Stores, Adds, width, access_report, report_or, outcome_inside, access_outcome, cells_at}
+use Rattle.slot_headers.specs.Cells.{cells_at}
+use Rattle.heap_model.specs.Cells.{Act, Loads, Stores, Adds, width, access_report, report_or, outcome_inside, access_outcome}
 use Rattle.heap_model.specs.Heap.{Body, access_at, empty}
-use Rattle.heap_model.specs.Preference.{Preference}
+use Rattle.heap_model.specs.Layouts.{Layouts}
 use Rattle.heap_model.specs.Answers.{Words, access, answer, answer_by, live_in, reply, offset, is_inside, datum, check_reply, found_reply, first_byte}
 use Rattle.heap_model.specs.Legal.{Answers, IsLegal, IsLegalFrom, Meets, after, replay}
 use Rattle.heap_model.specs.Performed.{Access, access_of, is_report, IsInside, AreFound, AccessesLaw, FoundLaw}
@@ -76,8 +77,8 @@ placed h p reach kind act fine = go (version_of p == 0) (live_in h reach.lo p) r
 
 -- ---- an entry of a legal history
 
-module _ (preferred : Preference) where
-  pub met : (h : Words) (before later : List Entry) (e : Entry) → IsLegalFrom preferred h (before ++ e ∷ later) → Meets preferred (replay h before) e
+module _ (layouts : Layouts) where
+  pub met : (h : Words) (before later : List Entry) (e : Entry) → IsLegalFrom layouts h (before ++ e ∷ later) → Meets layouts (replay h before) e
   met h [] later e legal = legal.0
   met h (f ∷ before) later e legal = met (after h f) before later e legal.1
 
@@ -89,7 +90,7 @@ module _ (preferred : Preference) where
   no_access : (h : Words) (at : Access) → None ≡ Some at → IsInside h at
   no_access h at e = absurd (none-some at e)
 
-  answered : (h : Words) (r : ℕ) (call : Call) (given : Reply) (at : Access) → Answers preferred h r call given → access_of call ≡ Some at → is_report given ≡ false → IsInside h at
+  answered : (h : Words) (r : ℕ) (call : Call) (given : Reply) (at : Access) → Answers layouts h r call given → access_of call ≡ Some at → is_report given ≡ false → IsInside h at
   unfolding Answers answer_by
   answered h r (Alloc elem size fixed) given at e same fine = no_access h at same
   answered h r (Frees p fixed) given at e same fine = no_access h at same
@@ -101,7 +102,7 @@ module _ (preferred : Preference) where
   -- ---- a check
 
   looked_up : (h : Words) (p want first k : ℕ) (b : Body ℕ) (reach : Reach) → live_in h (address_of p) p ≡ Some b → first ≡ first_byte (address_of p) → k ≡ offset (address_of p) p
-      → (o : Option bounds.Bounds) → preferred b.elem (length b.cells) k want ≡ o → found_reply first o ≡ Found reach → AreFound preferred h p want reach
+      → (o : Option bounds.Bounds) → layouts.preferred b.elem (length b.cells) k want ≡ o → found_reply first o ≡ Found reach → AreFound layouts h p want reach
   looked_up h p want first k b reach named at_first at_k None e given = absurd (not_found WrongType reach given)
   looked_up h p want first k b reach named at_first at_k (Some o) e given =
       let same = same_Found _ _ given in
@@ -109,40 +110,40 @@ module _ (preferred : Preference) where
         body = b;
         named = named;
         bounds = o;
-        are_preferred = ap (λ k. preferred b.elem (length b.cells) k want) (sym at_k) ∙ e;
+        are_preferred = ap (λ k. layouts.preferred b.elem (length b.cells) k want) (sym at_k) ∙ e;
         from = ap (λ r. r.lo) (sym same) ∙ ap (λ f. f + o.lo) at_first;
         to = ap (λ r. r.hi) (sym same) ∙ ap (λ f. f + o.hi) at_first;
       }
 
-  checked : (h : Words) (p want : ℕ) (reach : Reach) → answer preferred h (Check p want) ≡ Found reach → AreFound preferred h p want reach
+  checked : (h : Words) (p want : ℕ) (reach : Reach) → answer layouts h (Check p want) ≡ Found reach → AreFound layouts h p want reach
   unfolding answer_by
   checked h p want reach given = go (version_of p == 0) (live_in h (address_of p) p) refl given
     where
       go : (null : Bool) (o : Option (Body ℕ)) → live_in h (address_of p) p ≡ o
-          → cond null (Report Null) (check_reply preferred (offset (address_of p) p) (first_byte (address_of p)) want o) ≡ Found reach → AreFound preferred h p want reach
+          → cond null (Report Null) (check_reply layouts (offset (address_of p) p) (first_byte (address_of p)) want o) ≡ Found reach → AreFound layouts h p want reach
       go true o named given = absurd (not_found Null reach given)
       go false None named given = absurd (not_found Free reach given)
       go false (Some b) named given = looked_up h p want _ _ b reach named refl refl _ refl given
 
   -- ---- the laws
 
-  pub accesses : (before later : List Entry) (e : Entry) (at : Access) → IsLegal preferred (before ++ e ∷ later)
+  pub accesses : (before later : List Entry) (e : Entry) (at : Access) → IsLegal layouts (before ++ e ∷ later)
       → access_of e.call ≡ Some at → IsFalse (is_report e.reply) → IsInside (replay empty before) at
   accesses before later e at legal same fine =
       let m = met empty before later e legal in
       answered (replay empty before) e.region e.call e.reply at m.answers same fine
 
-  pub finds : (before later : List Entry) (e : Entry) (word want : ℕ) (reach : Reach) → IsLegal preferred (before ++ e ∷ later)
-      → e.call ≡ Check word want → e.reply ≡ Found reach → AreFound preferred (replay empty before) word want reach
+  pub finds : (before later : List Entry) (e : Entry) (word want : ℕ) (reach : Reach) → IsLegal layouts (before ++ e ∷ later)
+      → e.call ≡ Check word want → e.reply ≡ Found reach → AreFound layouts (replay empty before) word want reach
   unfolding Answers
   finds before later e word want reach legal call given =
       let m = met empty before later e legal in
-      let A : Call → Type 0 = λ c. Answers preferred (replay empty before) e.region c e.reply in
-      let a : e.reply ≡ answer preferred (replay empty before) (Check word want) = subst A call m.answers in
+      let A : Call → Type 0 = λ c. Answers layouts (replay empty before) e.region c e.reply in
+      let a : e.reply ≡ answer layouts (replay empty before) (Check word want) = subst A call m.answers in
       checked (replay empty before) word want reach (sym a ∙ given)
 
 pub accesses_law : AccessesLaw
-accesses_law preferred before later e at legal same fine = accesses preferred before later e at legal same fine
+accesses_law layouts before later e at legal same fine = accesses layouts before later e at legal same fine
 
 pub found_law : FoundLaw
-found_law preferred before later e word want reach legal call given = finds preferred before later e word want reach legal call given
+found_law layouts before later e word want reach legal call given = finds layouts before later e word want reach legal call given

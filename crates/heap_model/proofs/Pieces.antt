@@ -7,10 +7,11 @@ use Rattle.std.proofs.lemmas.List.{length-map}
 use Rattle.std.specs.List.{AllByRecursion}
 use Rattle.lowfat_regions.specs.Regions.{Slot, slot_of}
 use Rattle.slot_headers.specs.Words.{address_of, version_of}
-use Rattle.heap_model.specs.Cells.{Cell, Byte, Part, Number, Pointer, Act, Stores, Adds, width, bytes, zeros, number_in, parts, cells_at, put, without_mark, without_pointer, cells_after_store, cells_after_add, access_cells}
+use Rattle.slot_headers.specs.Cells.{Cell, Byte, Part, bytes, zeros, number_in, parts, cells_at, put, without_mark, without_pointer}
+use Rattle.heap_model.specs.Cells.{Number, Pointer, Act, Stores, Adds, width, cells_after_store, cells_after_add, access_cells}
 use Rattle.heap_model.specs.Heap.{Body, Object, empty, live_body, live_count, with_cells_if}
 use Rattle.heap_model.specs.Answers.{Name, Words, is_at, names, offset, datum, access, answer_by, live_in, new_object, after_access, next}
-use Rattle.heap_model.specs.Preference.{Preference}
+use Rattle.heap_model.specs.Layouts.{Layouts}
 use Rattle.heap_model.specs.Forms.{may_store, fits_call}
 use Rattle.heap_model.specs.Legal.{Answers, IsLegalFrom, after, replay}
 use Rattle.heap_model.specs.Performed.{is_report}
@@ -306,7 +307,7 @@ stored kind k v cells fits pieces aligned inside = go v.pointer refl
         (subst (λ w. k % w ≡ 0) f.0 aligned) (subst (λ w. k + w ≤ length cells) f.0 inside) f.1
     go false e = pieces-number kind k v.bits cells pieces aligned
 
-module _ (preferred : Preference) where
+module _ (layouts : Layouts) where
   whole-access : (h : Words) (p : ℕ) (reach : Reach) (kind : AccessKind) (act : Act ℕ) → IsSound h
       → AllByRecursion IsWholeObject h.live
       → is_report (access (live_in h) p reach kind act) ≡ false
@@ -325,7 +326,7 @@ module _ (preferred : Preference) where
       all
 
   whole-next : (worker number : ℕ) (h : Words) (r : ℕ) (call : Call) (reply : Reply) → fits_call call ≡ true
-      → Answers preferred h r call reply → IsSound h → AllByRecursion IsWholeObject h.live
+      → Answers layouts h r call reply → IsSound h → AllByRecursion IsWholeObject h.live
       → AllByRecursion IsWholeObject (next worker number h call reply).live
   unfolding next Answers answer_by
   whole-next worker number h r (Alloc elem size fixed) (Placed word) fits a s all =
@@ -340,19 +341,19 @@ module _ (preferred : Preference) where
       (λ cells pieces aligned inside. pieces-add kind (offset reach.lo p) n cells pieces aligned)
   whole-next worker number h r _ _ fits a s all = all
 
-  pub whole-replay : (h : Words) (es : List Entry) → IsLegalFrom preferred h es → IsSound h
+  pub whole-replay : (h : Words) (es : List Entry) → IsLegalFrom layouts h es → IsSound h
       → AllByRecursion IsWholeObject h.live → AllByRecursion IsWholeObject (replay h es).live
   whole-replay h [] legal s all = all
   whole-replay h (e ∷ es) legal s all =
       whole-replay (after h e) es legal.1
-      (sound-next preferred e.worker e.number h e.region e.call e.reply legal.0.region_is legal.0.answers s)
+      (sound-next layouts e.worker e.number h e.region e.call e.reply legal.0.region_is legal.0.answers s)
       (whole-next e.worker e.number h e.region e.call e.reply legal.0.fits legal.0.answers s all)
 
-  pub legal-before : (h : Words) (before later : List Entry) → IsLegalFrom preferred h (before ++ later)
-      → IsLegalFrom preferred h before
+  pub legal-before : (h : Words) (before later : List Entry) → IsLegalFrom layouts h (before ++ later)
+      → IsLegalFrom layouts h before
   legal-before h [] later legal = tt
   legal-before h (e ∷ before) later legal = (legal.0, legal-before (after h e) before later legal.1)
 
 pub pieces_law : PiecesLaw
-pieces_law preferred before later legal =
-    whole-replay preferred empty before (legal-before preferred empty before later legal) sound-empty tt
+pieces_law layouts before later legal =
+    whole-replay layouts empty before (legal-before layouts empty before later legal) sound-empty tt

@@ -8,7 +8,7 @@ use Rattle.slot_headers.specs.Words.{address_of, version_of}
 use Rattle.heap_model.specs.Cells.{Act, Loads, Stores, Adds}
 use Rattle.heap_model.specs.Heap.{part, live_body, has_dead, is_full, is_of, rest, resting}
 use Rattle.heap_model.specs.Answers.{Name, region, Words, is_in, is_at, names, slot_at, datum, reply, access, answer_by, Live, Dead, live_in, dead_in, answer, new_object, next}
-use Rattle.heap_model.specs.Preference.{Preference}
+use Rattle.heap_model.specs.Layouts.{Layouts}
 use Rattle.heap_model.specs.Forms.{region_or_one, region_for}
 use Rattle.heap_model.specs.Legal.{MayPlace, AllocAnswers, Answers}
 use Rattle.heap_model.proofs.Lists.{filter-within, Within, Apart}
@@ -59,14 +59,14 @@ module _ (r : ℕ) (l m : Live) (d e : Dead) (live : (a w : ℕ) → region_or_o
   unfolding access
   access-agree p reach kind act home = rw (live reach.lo p home)
 
-  pub answer_by-agree : (preferred : Preference) (call : Call) → region_for call ≡ Some r → answer_by preferred l d call ≡ answer_by preferred m e call
+  pub answer_by-agree : (layouts : Layouts) (call : Call) → region_for call ≡ Some r → answer_by layouts l d call ≡ answer_by layouts m e call
   unfolding answer_by region_for
-  answer_by-agree preferred (Alloc elem size fixed) home = refl
-  answer_by-agree preferred (Free p fixed) home = rw (live (address_of p) p home, dead (address_of p) p home)
-  answer_by-agree preferred (Check p want) home = rw (live (address_of p) p home)
-  answer_by-agree preferred (Load p reach kind) home = access-agree p reach kind Loads home
-  answer_by-agree preferred (Store p reach kind v) home = access-agree p reach kind (Stores (datum v)) home
-  answer_by-agree preferred (Add p reach kind n) home = access-agree p reach kind (Adds n) home
+  answer_by-agree layouts (Alloc elem size fixed) home = refl
+  answer_by-agree layouts (Free p fixed) home = rw (live (address_of p) p home, dead (address_of p) p home)
+  answer_by-agree layouts (Check p want) home = rw (live (address_of p) p home)
+  answer_by-agree layouts (Load p reach kind) home = access-agree p reach kind Loads home
+  answer_by-agree layouts (Store p reach kind v) home = access-agree p reach kind (Stores (datum v)) home
+  answer_by-agree layouts (Add p reach kind n) home = access-agree p reach kind (Adds n) home
 
 module _ (r : ℕ) (h : Words) where
   live-within : (anchor word : ℕ) → region_or_one anchor ≡ Some r → live_body (names anchor word) (within r h) ≡ live_body (names anchor word) h
@@ -75,9 +75,9 @@ module _ (r : ℕ) (h : Words) where
   dead-within : (anchor word : ℕ) → region_or_one anchor ≡ Some r → has_dead (names anchor word) (within r h) ≡ has_dead (names anchor word) h
   dead-within anchor word home = parts.has_dead-part (names anchor word) (is_of region r) h (names-within r anchor word home)
 
-  pub answer-within : (preferred : Preference) (call : Call) → region_for call ≡ Some r → answer preferred (within r h) call ≡ answer preferred h call
-  answer-within preferred call home =
-      answer_by-agree r (live_in (within r h)) (live_in h) (dead_in (within r h)) (dead_in h) live-within dead-within preferred call home
+  pub answer-within : (layouts : Layouts) (call : Call) → region_for call ≡ Some r → answer layouts (within r h) call ≡ answer layouts h call
+  answer-within layouts call home =
+      answer_by-agree r (live_in (within r h)) (live_in h) (dead_in (within r h)) (dead_in h) live-within dead-within layouts call home
 
   full-within : is_full region (within r h) r ≡ is_full region h r
   unfolding is_full
@@ -117,10 +117,10 @@ module _ (r : ℕ) (h : Words) where
   alloc-within (Placed word) = (λ a. (sym full-within ∙ a.0, (MayPlace-within word).0 a.1), λ a. (full-within ∙ a.0, (MayPlace-within word).1 a.1))
   alloc-within _ = (λ a. a, λ a. a)
 
-  pub Answers-within : (preferred : Preference) (call : Call) (reply : Reply) → region_for call ≡ Some r → Answers preferred (within r h) r call reply ↔ Answers preferred h r call reply
+  pub Answers-within : (layouts : Layouts) (call : Call) (reply : Reply) → region_for call ≡ Some r → Answers layouts (within r h) r call reply ↔ Answers layouts h r call reply
   unfolding Answers
-  Answers-within preferred (Alloc elem size fixed) reply home = alloc-within reply
-  Answers-within preferred call reply home = (λ a. a ∙ answer-within preferred call home, λ a. a ∙ sym (answer-within preferred call home))
+  Answers-within layouts (Alloc elem size fixed) reply home = alloc-within reply
+  Answers-within layouts call reply home = (λ a. a ∙ answer-within layouts call home, λ a. a ∙ sym (answer-within layouts call home))
 
   -- ---- the next heap
 
@@ -128,20 +128,20 @@ module _ (r : ℕ) (h : Words) where
   unfolding slot_at
   placed-region word m = rw m.slot_is m.of_region
 
-  pub next-within : (preferred : Preference) (worker number : ℕ) (call : Call) (reply : Reply) → Answers preferred h r call reply
+  pub next-within : (layouts : Layouts) (worker number : ℕ) (call : Call) (reply : Reply) → Answers layouts h r call reply
       → within r (next worker number h call reply) ≡ next worker number (within r h) call reply
   unfolding next Answers AllocAnswers
-  next-within preferred worker number (Alloc elem size fixed) (Placed word) a = parts.part-made (is_of region r) (new_object worker number elem size fixed word) h (eq-eqb _ _ (placed-region word a.1))
-  next-within preferred worker number (Free p fixed) Done a = parts.part-died (names (address_of p) p) (is_of region r) h
-  next-within preferred worker number (Store p reach kind v) Done a = parts.part-cells (names reach.lo p) (is_of region r) _ h
-  next-within preferred worker number (Add p reach kind n) (Moved v) a = parts.part-cells (names reach.lo p) (is_of region r) _ h
-  next-within preferred worker number _ _ a = refl
+  next-within layouts worker number (Alloc elem size fixed) (Placed word) a = parts.part-made (is_of region r) (new_object worker number elem size fixed word) h (eq-eqb _ _ (placed-region word a.1))
+  next-within layouts worker number (Free p fixed) Done a = parts.part-died (names (address_of p) p) (is_of region r) h
+  next-within layouts worker number (Store p reach kind v) Done a = parts.part-cells (names reach.lo p) (is_of region r) _ h
+  next-within layouts worker number (Add p reach kind n) (Moved v) a = parts.part-cells (names reach.lo p) (is_of region r) _ h
+  next-within layouts worker number _ _ a = refl
 
-  pub next-elsewhere : (q : ℕ) → (r ≡ q → ⊥) → (preferred : Preference) (worker number : ℕ) (call : Call) (reply : Reply) → region_for call ≡ Some r → Answers preferred h r call reply
+  pub next-elsewhere : (q : ℕ) → (r ≡ q → ⊥) → (layouts : Layouts) (worker number : ℕ) (call : Call) (reply : Reply) → region_for call ≡ Some r → Answers layouts h r call reply
       → within q (next worker number h call reply) ≡ within q h
   unfolding next Answers AllocAnswers region_for
-  next-elsewhere q other preferred worker number (Alloc elem size fixed) (Placed word) home a = parts.part-made_apart (is_of region q) (new_object worker number elem size fixed word) h (ne_eqb _ _ (λ e. other (sym (placed-region word a.1) ∙ e)))
-  next-elsewhere q other preferred worker number (Free p fixed) Done home a = parts.part-died_apart (names (address_of p) p) (is_of region q) h (names-apart q r (address_of p) p other home)
-  next-elsewhere q other preferred worker number (Store p reach kind v) Done home a = parts.part-cells_apart (names reach.lo p) (is_of region q) _ h (names-apart q r reach.lo p other home)
-  next-elsewhere q other preferred worker number (Add p reach kind n) (Moved v) home a = parts.part-cells_apart (names reach.lo p) (is_of region q) _ h (names-apart q r reach.lo p other home)
-  next-elsewhere q other preferred worker number _ _ home a = refl
+  next-elsewhere q other layouts worker number (Alloc elem size fixed) (Placed word) home a = parts.part-made_apart (is_of region q) (new_object worker number elem size fixed word) h (ne_eqb _ _ (λ e. other (sym (placed-region word a.1) ∙ e)))
+  next-elsewhere q other layouts worker number (Free p fixed) Done home a = parts.part-died_apart (names (address_of p) p) (is_of region q) h (names-apart q r (address_of p) p other home)
+  next-elsewhere q other layouts worker number (Store p reach kind v) Done home a = parts.part-cells_apart (names reach.lo p) (is_of region q) _ h (names-apart q r reach.lo p other home)
+  next-elsewhere q other layouts worker number (Add p reach kind n) (Moved v) home a = parts.part-cells_apart (names reach.lo p) (is_of region q) _ h (names-apart q r reach.lo p other home)
+  next-elsewhere q other layouts worker number _ _ home a = refl

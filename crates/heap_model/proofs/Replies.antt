@@ -7,10 +7,11 @@ use Rattle.std.specs.List.{AllByRecursion}
 use Rattle.std.specs.Bool.{beq}
 use Rattle.type_layout.specs.declared.preference.Bounds as bounds
 use Rattle.slot_headers.specs.Words.{address_of, version_of}
-use Rattle.heap_model.specs.Cells.{Cell, Byte, Part, Act, Loads, Stores, Adds, Outcome, width, number_in, pointer_in, cells_at, sign_extension, load_outcome, access_report, report_or, outcome_inside, access_outcome}
+use Rattle.slot_headers.specs.Cells.{Cell, Byte, Part, number_in, pointer_in, cells_at}
+use Rattle.heap_model.specs.Cells.{Act, Loads, Stores, Adds, Outcome, width, sign_extension, load_outcome, access_report, report_or, outcome_inside, access_outcome}
 use Rattle.heap_model.specs.Heap.{Body, empty, access_at, free_outcome}
 use Rattle.heap_model.specs.Answers.{Words, names, access, answer, answer_by, live_in, dead_in, reply, offset, is_inside, datum, check_reply, found_reply, first_byte}
-use Rattle.heap_model.specs.Preference.{Preference}
+use Rattle.heap_model.specs.Layouts.{Layouts}
 use Rattle.heap_model.specs.Forms.{is_number, can_give, is_access_report, suits_call, suits_alloc, suits_free, suits_check, suits_load, suits_store, suits_add, fits_call}
 use Rattle.heap_model.specs.Legal.{AllocAnswers, Answers, replay}
 use Rattle.heap_model.specs.Pieces.{IsByte, IsWhole, all_bytes, one_pointer, HasWholePieces}
@@ -245,8 +246,8 @@ add-given kind k n cells is pieces aligned inside =
     (number-outcome kind (number_in (cells_at k (width kind) cells)) None is
     (below-here kind k cells pieces aligned inside)).1
 
-module _ (preferred : Preference) (h : Words) where
-  free-suits : (p : ℕ) (fixed : Bool) → suits_free (answer preferred h (Frees p fixed)) ≡ true
+module _ (layouts : Layouts) (h : Words) where
+  free-suits : (p : ℕ) (fixed : Bool) → suits_free (answer layouts h (Frees p fixed)) ≡ true
   unfolding answer_by
   free-suits p fixed = go (p == 0) (version_of p == 0) (live_in h (address_of p) p) (dead_in h (address_of p) p)
     where
@@ -264,7 +265,7 @@ module _ (preferred : Preference) (h : Words) where
       go false false None true = either (offset (address_of p) p == 0) _ _ refl refl
       go false false (Some o) d = either ((offset (address_of p) p == 0) && beq fixed o.fixed) _ _ refl refl
 
-  check-suits : (p want : ℕ) → suits_check (answer preferred h (Check p want)) ≡ true
+  check-suits : (p want : ℕ) → suits_check (answer layouts h (Check p want)) ≡ true
   unfolding answer_by
   check-suits p want = go (version_of p == 0) (live_in h (address_of p) p)
     where
@@ -274,10 +275,10 @@ module _ (preferred : Preference) (h : Words) where
 
       go : (null : Bool) (o : Option (Body ℕ))
           → suits_check (cond null (Report Null)
-          (check_reply preferred (offset (address_of p) p) (first_byte (address_of p)) want o)) ≡ true
+          (check_reply layouts (offset (address_of p) p) (first_byte (address_of p)) want o)) ≡ true
       go true o = refl
       go false None = refl
-      go false (Some b) = found (preferred b.elem (length b.cells) (offset (address_of p) p) want)
+      go false (Some b) = found (layouts.preferred b.elem (length b.cells) (offset (address_of p) p) want)
 
   module _ (sound : IsSound h) (whole : AllByRecursion IsWholeObject h.live) where
     load-suits : (p : ℕ) (reach : Reach) (kind : AccessKind)
@@ -306,7 +307,7 @@ module _ (preferred : Preference) (h : Words) where
     alloc-suits r (Placed word) a = lt-ltb _ _ (omega (arith, a.1.version))
     alloc-suits r _ a = absurd a
 
-    suits : (r : ℕ) (call : Call) (given : Reply) → fits_call call ≡ true → Answers preferred h r call given
+    suits : (r : ℕ) (call : Call) (given : Reply) → fits_call call ≡ true → Answers layouts h r call given
         → suits_call call given ≡ true
     unfolding Answers answer_by
     suits r (Alloc elem size fixed) given fits a = alloc-suits r given a
@@ -317,9 +318,9 @@ module _ (preferred : Preference) (h : Words) where
     suits r (Add p reach kind n) given fits a = ap (suits_add kind) a ∙ add-suits p reach kind n fits
 
 pub replies_law : RepliesLaw
-replies_law preferred before later e legal =
-    let m = met preferred empty before later e legal in
-    let so_far = legal-before preferred empty before (e ∷ later) legal in
-    suits preferred (replay empty before) (sound-replay preferred empty before so_far sound-empty)
-    (whole-replay preferred empty before so_far sound-empty tt)
+replies_law layouts before later e legal =
+    let m = met layouts empty before later e legal in
+    let so_far = legal-before layouts empty before (e ∷ later) legal in
+    suits layouts (replay empty before) (sound-replay layouts empty before so_far sound-empty)
+    (whole-replay layouts empty before so_far sound-empty tt)
     e.region e.call e.reply m.fits m.answers

@@ -6,7 +6,7 @@ use Rattle.lowfat_regions.specs.Regions.{sizes, class_of, region_of, IsRegion}
 use Rattle.slot_headers.specs.Words.{address_of}
 use Rattle.heap_model.specs.Heap.{empty}
 use Rattle.heap_model.specs.Answers.{Words}
-use Rattle.heap_model.specs.Preference.{Preference}
+use Rattle.heap_model.specs.Layouts.{Layouts}
 use Rattle.heap_model.specs.Forms.{region_or_one, region_for}
 use Rattle.heap_model.specs.Legal.{IsLegalFrom, InRegions, after}
 use Rattle.heap_model.specs.Restricted.{RestrictionsLaw}
@@ -47,14 +47,14 @@ call-region (Add p reach kind n) r e = address-region reach.lo r e
 
 -- ---- the law
 
-pub legal-regions : (preferred : Preference) (h : Words) (es : List Entry) → IsLegalFrom preferred h es → InRegions es
-legal-regions preferred h [] legal = tt
-legal-regions preferred h (e ∷ es) legal =
+pub legal-regions : (layouts : Layouts) (h : Words) (es : List Entry) → IsLegalFrom layouts h es → InRegions es
+legal-regions layouts h [] legal = tt
+legal-regions layouts h (e ∷ es) legal =
     let r = call-region e.call e.region legal.0.region_is in
-    (r.0, r.1, legal-regions preferred (after h e) es legal.1)
+    (r.0, r.1, legal-regions layouts (after h e) es legal.1)
 
 pub restrictions_law : RestrictionsLaw
-restrictions_law preferred history = (
-  λ legal. (legal-regions preferred empty history legal, λ r is. restricted preferred r empty history legal),
-  λ parts. joined preferred empty history parts.0 (λ r low high. parts.1 r (low, high)),
+restrictions_law layouts history = (
+  λ legal. (legal-regions layouts empty history legal, λ r is. restricted layouts r empty history legal),
+  λ parts. joined layouts empty history parts.0 (λ r low high. parts.1 r (low, high)),
 )

@@ -4,10 +4,10 @@ use Rattle.std.specs.List.{list_any}
 use Rattle.std.specs.Prelude.{nat_lt, reverse}
 use Rattle.lowfat_regions.specs.Regions.{Slot, is_slot, slot_of, slots}
 use Rattle.slot_headers.specs.Words.{version_of}
-use Rattle.heap_model.specs.Cells.{Cell}
+use Rattle.slot_headers.specs.Cells.{Cell}
 use Rattle.heap_model.specs.Heap.{Body, Object, live_body, has_dead, live_count, made_count, dead_count, is_of, resting, with_new, with_dead, with_cells, with_cells_if}
 use Rattle.heap_model.specs.Answers.{Name, region, Words, is_in, is_at, live_in, dead_in, answer, answer_by}
-use Rattle.heap_model.specs.Preference.{Preference}
+use Rattle.heap_model.specs.Layouts.{Layouts}
 use Rattle.heap_model.specs.State.{SlotState, State, state_of, live_at, dead_at, at_slot, live_by, dead_by, slot_number, StandsFor, ChangesSlot, one_if, live_objects, all_versions}
 use Rattle.heap_model.specs.declared.calls.Call.{Call}
 use Rattle.std.proofs.lemmas.Bool.{and_parts, and_from, or_right, lt-ltb, eqb-true, eq-eqb}
@@ -43,8 +43,8 @@ module _ (st : State) (h : Words) (s : StandsFor st h) where
       go (Some t) = s.dead t (version_of word)
 
   -- the replies
-  pub answer-same : (preferred : Preference) (call : Call) → answer preferred h call ≡ answer_by preferred (live_by st) (dead_by st) call
-  answer-same preferred call = λ i. answer_by preferred (λ a w. live-same a w i) (λ a w. dead-same a w i) call
+  pub answer-same : (layouts : Layouts) (call : Call) → answer layouts h call ≡ answer_by layouts (live_by st) (dead_by st) call
+  answer-same layouts call = λ i. answer_by layouts (λ a w. live-same a w i) (λ a w. dead-same a w i) call
 
 -- ---- an access
 

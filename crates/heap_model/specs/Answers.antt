@@ -1,11 +1,12 @@
 -- What the heap of a history answers. Its pointer values are words.
 use Rattle.std.specs.Prelude.{ℕ, ◌+◌, Bool, true, false, ◌&&◌, ◌==◌, nat_le, if◌then◌else◌, length, Option, Some, None, unwrap_or}
-use Rattle.lowfat_regions.specs.Regions.{header_bytes, Slot, is_slot, slot_of, slot_address}
+use Rattle.lowfat_regions.specs.Regions.{Slot, is_slot, slot_of, object_address}
 use Rattle.slot_headers.specs.Words.{address_of, version_of}
 use Rattle.heap_model.specs.Objects.{offset_in}
-use Rattle.heap_model.specs.Cells.{zeros, Datum, Number, Pointer, Act, Loads, Stores, Adds, Outcome, Did, Gave, Refused, width, access_cells}
+use Rattle.slot_headers.specs.Cells.{zeros}
+use Rattle.heap_model.specs.Cells.{Datum, Number, Pointer, Act, Loads, Stores, Adds, Outcome, Did, Gave, Refused, width, access_cells}
 use Rattle.heap_model.specs.Heap.{Body, Object, Heap, live_body, has_dead, free_outcome, access_at, with_new, with_dead, with_cells}
-use Rattle.heap_model.specs.Preference.{Preference}
+use Rattle.heap_model.specs.Layouts.{Layouts}
 use Rattle.type_layout.specs.declared.preference.Bounds.{Bounds}
 use Rattle.heap_model.specs.declared.calls.AccessKind.{AccessKind}
 use Rattle.heap_model.specs.declared.calls.Reach.{Reach}
@@ -52,7 +53,7 @@ offset anchor word = offset_in (slot_at anchor) (address_of word)
 
 -- the address of the first byte
 unfoldable pub first_byte : ℕ → ℕ
-first_byte anchor = slot_address (slot_at anchor) + header_bytes
+first_byte anchor = object_address (slot_at anchor)
 
 -- ---- replies
 
@@ -72,9 +73,9 @@ abbrev pub found_reply : ℕ → Option Bounds → Reply
 found_reply first None = Report WrongType
 found_reply first (Some b) = Found (record { lo = first + b.lo; hi = first + b.hi })
 
-abbrev pub check_reply : Preference → ℕ → ℕ → ℕ → Option (Body ℕ) → Reply
-check_reply preferred k first want None = Report Freed
-check_reply preferred k first want (Some o) = found_reply first (preferred o.elem (length o.cells) k want)
+abbrev pub check_reply : Layouts → ℕ → ℕ → ℕ → Option (Body ℕ) → Reply
+check_reply layouts k first want None = Report Freed
+check_reply layouts k first want (Some o) = found_reply first (layouts.preferred o.elem (length o.cells) k want)
 
 -- whether the bytes of an access are inside its reach
 abbrev pub is_inside : Reach → ℕ → ℕ → Bool
@@ -98,18 +99,18 @@ access live p reach kind act =
     (reply (access_at (is_inside reach (address_of p) (width kind)) (offset reach.lo p) kind act (live reach.lo p)))
 
 -- what is replied to a call that is no allocation
-unfoldable pub answer_by : Preference → Live → Dead → Call → Reply
-answer_by preferred live dead (Alloc elem size fixed) = NoSlot
-answer_by preferred live dead (Free p fixed) =
+unfoldable pub answer_by : Layouts → Live → Dead → Call → Reply
+answer_by layouts live dead (Alloc elem size fixed) = NoSlot
+answer_by layouts live dead (Free p fixed) =
     if p == 0 then Done
     else unless_null p (Report BadFree)
     (reply (free_outcome (offset (address_of p) p) fixed (live (address_of p) p) (dead (address_of p) p)))
-answer_by preferred live dead (Check p want) =
+answer_by layouts live dead (Check p want) =
     unless_null p (Report Null)
-    (check_reply preferred (offset (address_of p) p) (first_byte (address_of p)) want (live (address_of p) p))
-answer_by preferred live dead (Load p reach kind) = access live p reach kind Loads
-answer_by preferred live dead (Store p reach kind v) = access live p reach kind (Stores (datum v))
-answer_by preferred live dead (Add p reach kind n) = access live p reach kind (Adds n)
+    (check_reply layouts (offset (address_of p) p) (first_byte (address_of p)) want (live (address_of p) p))
+answer_by layouts live dead (Load p reach kind) = access live p reach kind Loads
+answer_by layouts live dead (Store p reach kind v) = access live p reach kind (Stores (datum v))
+answer_by layouts live dead (Add p reach kind n) = access live p reach kind (Adds n)
 
 abbrev pub live_in : Words → Live
 live_in h anchor word = live_body (names anchor word) h
@@ -117,8 +118,8 @@ live_in h anchor word = live_body (names anchor word) h
 abbrev pub dead_in : Words → Dead
 dead_in h anchor word = has_dead (names anchor word) h
 
-abbrev pub answer : Preference → Words → Call → Reply
-answer preferred h call = answer_by preferred (live_in h) (dead_in h) call
+abbrev pub answer : Layouts → Words → Call → Reply
+answer layouts h call = answer_by layouts (live_in h) (dead_in h) call
 
 -- ---- the next heap, after a call of a worker with this number and its reply
 

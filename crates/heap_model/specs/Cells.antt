@@ -1,15 +1,11 @@
--- What the bytes of an object hold, and what an access makes of them. P is the type of pointer values: words in a
--- history, pairs of an object and an offset in plain C. Nothing here looks into one.
-use Rattle.std.specs.Prelude.{ℕ, zero, suc, ◌+◌, ◌-◌, ◌*◌, ◌/◌, ◌%◌, ◌^◌, Bool, true, false, ◌&&◌, ◌==◌, nat_le, if◌then◌else◌, List, [], ◌∷◌, map, length, take, drop, replicate, Option, Some, None, option_map}
+-- What an access makes of the cells of an object. P is the type of pointer values: words in a history, pairs of an object
+-- and an offset in plain C. Nothing here looks into one.
+use Rattle.std.specs.Prelude.{ℕ, zero, ◌+◌, ◌-◌, ◌*◌, ◌%◌, ◌^◌, Bool, true, false, ◌&&◌, ◌==◌, nat_le, if◌then◌else◌, List, length, Option, Some, None}
+use Rattle.slot_headers.specs.Cells.{Cell, bytes, number_in, parts, pointer_in, cells_at, put, without_pointer}
 use Rattle.heap_model.specs.declared.calls.AccessKind.{AccessKind}
 use Rattle.heap_model.specs.declared.calls.AccessKind.TheVariants.{I8, U8, I16, U16, I32, U32, I64, Ptr, Word}
 use Rattle.heap_model.specs.declared.calls.ReportKind.{ReportKind}
 use Rattle.heap_model.specs.declared.calls.ReportKind.TheVariants.{Bounds, Align, PointerBytes, NotPointer}
-
--- a byte, or one of the eight parts of a pointer value, numbered from 0
-pub data Cell (P : Type 0) : Type 0 where
-  Byte : ℕ → Cell P
-  Part : ℕ → P → Cell P
 
 -- what an access moves
 pub data Datum (P : Type 0) : Type 0 where
@@ -44,31 +40,6 @@ is_signed I32 = true
 is_signed I64 = true
 is_signed _ = false
 
--- the bytes of a number, the lowest first
-abbrev pub bytes : {P : Type 0} → ℕ → ℕ → List (Cell P)
-bytes zero n = []
-bytes (suc w) n = Byte (n % 256) ∷ bytes w (n / 256)
-
--- zero bytes
-abbrev pub zeros : {P : Type 0} → ℕ → List (Cell P)
-zeros size = replicate size (Byte 0)
-
--- the number that these cells hold, if there is no part of a pointer value among them
-abbrev pub number_in : {P : Type 0} → List (Cell P) → Option ℕ
-number_in [] = Some 0
-number_in (Byte b ∷ cells) = option_map (λ n. b + 256 * n) (number_in cells)
-number_in (Part i p ∷ cells) = None
-
--- the eight parts of a pointer value
-abbrev pub parts : {P : Type 0} → P → List (Cell P)
-parts p = Part 0 p ∷ Part 1 p ∷ Part 2 p ∷ Part 3 p ∷ Part 4 p ∷ Part 5 p ∷ Part 6 p ∷ Part 7 p ∷ []
-
--- the pointer value that stands here
-abbrev pub pointer_in : {P : Type 0} → List (Cell P) → Option P
-pointer_in [] = None
-pointer_in (Byte b ∷ cells) = None
-pointer_in (Part i p ∷ cells) = Some p
-
 -- a number of a signed kind as 64 bits
 unfoldable pub sign_extension : AccessKind → ℕ → ℕ
 sign_extension kind n =
@@ -85,26 +56,6 @@ load_outcome Word (Some n) None = Gave (Number n)
 load_outcome Word None None = Refused PointerBytes
 load_outcome kind (Some n) p = Gave (Number (sign_extension kind n))
 load_outcome kind None p = Refused PointerBytes
-
--- the w cells at k
-abbrev pub cells_at : {P : Type 0} → ℕ → ℕ → List (Cell P) → List (Cell P)
-cells_at k w cells = take w (drop k cells)
-
--- the cells with these in place of those at k, as far as there are any
-unfoldable pub put : {P : Type 0} → ℕ → List (Cell P) → List (Cell P) → List (Cell P)
-put k new [] = []
-put zero [] (cell ∷ cells) = cell ∷ cells
-put zero (c ∷ new) (cell ∷ cells) = c ∷ put zero new cells
-put (suc k) new (cell ∷ cells) = cell ∷ put k new cells
-
--- a part of a pointer value becomes a zero byte
-abbrev pub without_mark : {P : Type 0} → Cell P → Cell P
-without_mark (Byte b) = Byte b
-without_mark (Part i p) = Byte 0
-
--- the aligned piece of eight cells round k, without a pointer value
-unfoldable pub without_pointer : {P : Type 0} → ℕ → List (Cell P) → List (Cell P)
-without_pointer k cells = let from = 8 * (k / 8) in put from (map without_mark (cells_at from 8 cells)) cells
 
 unfoldable pub cells_after_store : {P : Type 0} → AccessKind → ℕ → Datum P → List (Cell P) → List (Cell P)
 cells_after_store kind k (Number n) cells = put k (bytes (width kind) n) (without_pointer k cells)

@@ -2,7 +2,8 @@
 use Rattle.std.specs.Prelude.{ℕ, ◌+◌, min, Bool, true, false, not, ◌||◌, ◌==◌, if◌then◌else◌, List, [], ◌∷◌, ◌++◌, map, length, filter, find, take, ◌&&◌, option_map, Option, Some, None}
 use Rattle.std.specs.Bool.{beq}
 use Rattle.std.specs.List.{list_any}
-use Rattle.heap_model.specs.Cells.{Cell, Act, Outcome, Did, Refused, access_outcome}
+use Rattle.slot_headers.specs.Cells.{Cell}
+use Rattle.heap_model.specs.Cells.{Act, Outcome, Did, Refused, access_outcome}
 use Rattle.heap_model.specs.declared.calls.AccessKind.{AccessKind}
 use Rattle.heap_model.specs.declared.calls.ReportKind.TheVariants.{Free, BadFree, DoubleFree}
 use Rattle.free_slots.specs.Slots.{rest_limit}

@@ -1,14 +1,14 @@
 -- Legal histories.
 use Rattle.std.specs.Prelude.{ℕ, ◌≡◌, ◌+◌, suc, ◌≤◌, Bool, true, false, ◌&&◌, ◌==◌, nat_le, List, [], ◌∷◌, length, filter, Some}
 use Rattle.std.specs.List.{list_any}
-use Rattle.lowfat_regions.specs.Regions.{last_region, header_bytes, Slot, slot_of, slot_address}
+use Rattle.lowfat_regions.specs.Regions.{last_region, Slot, slot_of, object_address}
 use Rattle.slot_headers.specs.Words.{address_of, version_of}
 use Rattle.heap_model.specs.Heap.{Object, empty, live_count, made_count, resting, is_full}
 use Rattle.heap_model.specs.Answers.{Name, region, Words, is_in, is_at, answer, next}
-use Rattle.heap_model.specs.Preference.{Preference}
+use Rattle.heap_model.specs.Layouts.{Layouts}
 use Rattle.heap_model.specs.Forms.{region_for, fits_call}
 use Rattle.heap_model.specs.declared.calls.Call.{Call}
-use Rattle.heap_model.specs.declared.calls.Call.TheVariants.{Alloc}
+use Rattle.heap_model.specs.declared.calls.Call.TheVariants.{Alloc, Free, Check, Load, Store, Add}
 use Rattle.heap_model.specs.declared.calls.Reply.{Reply}
 use Rattle.heap_model.specs.declared.calls.Reply.TheVariants.{Placed, NoSlot}
 use Rattle.heap_model.specs.declared.calls.Entry.{Entry}
@@ -19,7 +19,7 @@ pub record MayPlace (h : Words) (r word : ℕ) : Type 0 where
   pub slot : Slot
   pub slot_is : slot_of (address_of word) ≡ Some slot
   pub of_region : slot.region ≡ r
-  pub address : address_of word ≡ slot_address slot + header_bytes
+  pub address : address_of word ≡ object_address slot
   pub no_live : live_count (is_in slot) h ≡ 0
   pub rested : list_any (is_in slot) (resting region r h) ≡ false
   pub version : version_of word ≡ 1 + made_count (is_in slot) h
@@ -31,26 +31,36 @@ AllocAnswers h r (Placed word) = (is_full region h r ≡ false) × MayPlace h r 
 AllocAnswers h r _ = ⊥
 
 -- the heap may give this reply to the call, in its region
-unfoldable pub Answers : Preference → Words → ℕ → Call → Reply → Type 0
-Answers preferred h r (Alloc elem size fixed) reply = AllocAnswers h r reply
-Answers preferred h r call reply = reply ≡ answer preferred h call
+unfoldable pub Answers : Layouts → Words → ℕ → Call → Reply → Type 0
+Answers layouts h r (Alloc elem size fixed) reply = AllocAnswers h r reply
+Answers layouts h r call reply = reply ≡ answer layouts h call
+
+-- the type that a call names is one of those that there are
+abbrev pub knows_types : Layouts → Call → Bool
+knows_types layouts (Alloc elem size fixed) = layouts.has elem
+knows_types layouts (Free p fixed) = true
+knows_types layouts (Check p want) = layouts.has want
+knows_types layouts (Load p reach kind) = true
+knows_types layouts (Store p reach kind v) = true
+knows_types layouts (Add p reach kind n) = true
 
 -- an entry meets the rules at this heap
-pub record Meets (preferred : Preference) (h : Words) (e : Entry) : Type 0 where
+pub record Meets (layouts : Layouts) (h : Words) (e : Entry) : Type 0 where
   pub fits : fits_call e.call ≡ true
+  pub types : knows_types layouts e.call ≡ true
   pub region_is : region_for e.call ≡ Some e.region
-  pub answers : Answers preferred h e.region e.call e.reply
+  pub answers : Answers layouts h e.region e.call e.reply
 
 abbrev pub after : Words → Entry → Words
 after h e = next e.worker e.number h e.call e.reply
 
 -- each entry meets the rules at the heap that the entries before it leave
-abbrev pub IsLegalFrom : Preference → Words → List Entry → Type 0
-IsLegalFrom preferred h [] = Unit {0}
-IsLegalFrom preferred h (e ∷ es) = Meets preferred h e × IsLegalFrom preferred (after h e) es
+abbrev pub IsLegalFrom : Layouts → Words → List Entry → Type 0
+IsLegalFrom layouts h [] = Unit {0}
+IsLegalFrom layouts h (e ∷ es) = Meets layouts h e × IsLegalFrom layouts (after h e) es
 
-abbrev pub IsLegal : Preference → List Entry → Type 0
-IsLegal preferred history = IsLegalFrom preferred empty history
+abbrev pub IsLegal : Layouts → List Entry → Type 0
+IsLegal layouts history = IsLegalFrom layouts empty history
 
 -- the heap that a history leaves
 abbrev pub replay : Words → List Entry → Words
@@ -79,7 +89,7 @@ InRegions (e ∷ es) = (1 ≤ e.region) × (e.region ≤ last_region) × InRegio
 
 -- whether an address is in the object, its end included
 abbrev pub covers : ℕ → Object Name ℕ → Bool
-covers a o = let first = slot_address o.name.slot + header_bytes in nat_le first a && nat_le a (first + length o.body.cells)
+covers a o = let first = object_address o.name.slot in nat_le first a && nat_le a (first + length o.body.cells)
 
 -- each address is in at most one live object, and each version of a slot is that of at most one object
 pub record IsApart (h : Words) : Type 0 where
@@ -88,4 +98,4 @@ pub record IsApart (h : Words) : Type 0 where
 
 -- In a legal history no two live objects overlap, and no slot has a version twice.
 abbrev pub ApartLaw : Type 0
-ApartLaw = (preferred : Preference) (history : List Entry) → IsLegal preferred history → IsApart (replay empty history)
+ApartLaw = (layouts : Layouts) (history : List Entry) → IsLegal layouts history → IsApart (replay empty history)

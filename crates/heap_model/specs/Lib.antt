@@ -1,9 +1,9 @@
 pub mod Objects
-pub mod Reaches
 pub mod Cells
 pub mod Heap
-pub mod Preference
+pub mod Layouts
 pub mod Answers
+pub mod Reaches
 pub mod Forms
 pub mod Legal
 pub mod Performed
@@ -16,3 +16,4 @@ pub mod Order
 pub mod Extension
 pub mod State
 pub mod History
+pub mod Segments

@@ -1,7 +1,7 @@
 -- The order of a history.
 use Rattle.std.specs.Prelude.{ℕ, ◌≡◌, ◌<◌, Bool, true, ◌&&◌, ◌||◌, ◌==◌, nat_lt, List, [], ◌∷◌}
 use Rattle.std.specs.List.{AllByRecursion}
-use Rattle.heap_model.specs.Preference.{Preference}
+use Rattle.heap_model.specs.Layouts.{Layouts}
 use Rattle.heap_model.specs.Legal.{own, of_region, IsLegal, CountsFrom, IsWellNumbered, InRegions}
 use Rattle.heap_model.specs.declared.calls.Entry.{Entry}
 
@@ -29,15 +29,15 @@ pub record IsMerge (parts : ℕ → List Entry) (history : List Entry) : Type 0 
   pub order : Rises history
 
 -- what each region and each pass keeps
-pub record ArePasses (preferred : Preference) (parts passes : ℕ → List Entry) : Type 0 where
-  pub legal : (r : ℕ) → IsLegal preferred (parts r)
+pub record ArePasses (layouts : Layouts) (parts passes : ℕ → List Entry) : Type 0 where
+  pub legal : (r : ℕ) → IsLegal layouts (parts r)
   pub region_stamps : (r : ℕ) → StampsRise (parts r)
   pub pass_stamps : (w : ℕ) → StampsRise (passes w)
   pub numbers : (w : ℕ) → CountsFrom 0 (passes w)
   pub same : (w r : ℕ) → own (parts r) w ≡ of_region r (passes w)
 
-pub record IsRecord (preferred : Preference) (passes : ℕ → List Entry) (history : List Entry) : Type 0 where
-  pub legal : IsLegal preferred history
+pub record IsRecord (layouts : Layouts) (passes : ℕ → List Entry) (history : List Entry) : Type 0 where
+  pub legal : IsLegal layouts history
   pub numbered : IsWellNumbered history
   pub stamped : IsStamped history
   pub own_is : (w : ℕ) → own history w ≡ passes w

@@ -4,7 +4,7 @@ use Rattle.type_layout.specs.declared.preference.Bounds.{Bounds}
 use Rattle.slot_headers.specs.Words.{address_of}
 use Rattle.heap_model.specs.Cells.{width}
 use Rattle.heap_model.specs.Heap.{Body, empty}
-use Rattle.heap_model.specs.Preference.{Preference}
+use Rattle.heap_model.specs.Layouts.{Layouts}
 use Rattle.heap_model.specs.Answers.{Words, live_in, offset, first_byte}
 use Rattle.heap_model.specs.Legal.{IsLegal, replay}
 use Rattle.heap_model.specs.declared.calls.AccessKind.{AccessKind}
@@ -48,22 +48,22 @@ pub record IsInside (h : Words) (at : Access) : Type 0 where
   pub aligned : offset at.reach.lo at.word % width at.kind ≡ 0
 
 -- Bounds are found: they are the preferred ones, as addresses, of the live object that the word names.
-pub record AreFound (preferred : Preference) (h : Words) (word want : ℕ) (reach : Reach) : Type 0 where
+pub record AreFound (layouts : Layouts) (h : Words) (word want : ℕ) (reach : Reach) : Type 0 where
   pub body : Body ℕ
   pub named : live_in h (address_of word) word ≡ Some body
   pub bounds : Bounds
-  pub are_preferred : preferred body.elem (length body.cells) (offset (address_of word) word) want ≡ Some bounds
+  pub are_preferred : layouts.preferred body.elem (length body.cells) (offset (address_of word) word) want ≡ Some bounds
   pub from : reach.lo ≡ first_byte (address_of word) + bounds.lo
   pub to : reach.hi ≡ first_byte (address_of word) + bounds.hi
 
 -- No access of a legal history that is performed leaves its reach or its object.
 abbrev pub AccessesLaw : Type 0
 AccessesLaw =
-    (preferred : Preference) (before later : List Entry) (e : Entry) (at : Access) → IsLegal preferred (before ++ e ∷ later)
+    (layouts : Layouts) (before later : List Entry) (e : Entry) (at : Access) → IsLegal layouts (before ++ e ∷ later)
     → access_of e.call ≡ Some at → IsFalse (is_report e.reply) → IsInside (replay empty before) at
 
 -- Each check of a legal history that finds bounds finds the preferred ones.
 abbrev pub FoundLaw : Type 0
 FoundLaw =
-    (preferred : Preference) (before later : List Entry) (e : Entry) (word want : ℕ) (reach : Reach) → IsLegal preferred (before ++ e ∷ later)
-    → e.call ≡ Check word want → e.reply ≡ Found reach → AreFound preferred (replay empty before) word want reach
+    (layouts : Layouts) (before later : List Entry) (e : Entry) (word want : ℕ) (reach : Reach) → IsLegal layouts (before ++ e ∷ later)
+    → e.call ≡ Check word want → e.reply ≡ Found reach → AreFound layouts (replay empty before) word want reach

@@ -2,9 +2,9 @@
 use Rattle.std.specs.Prelude.{ℕ, ◌≡◌, ◌*◌, ◌<◌, ◌≤◌, List, ◌++◌}
 use Rattle.std.specs.List.{AllByRecursion}
 use Rattle.slot_headers.specs.Words.{version_of}
-use Rattle.heap_model.specs.Cells.{Cell, Byte, Part, parts, cells_at}
+use Rattle.slot_headers.specs.Cells.{Cell, Byte, Part, parts, cells_at}
 use Rattle.heap_model.specs.Heap.{empty}
-use Rattle.heap_model.specs.Preference.{Preference}
+use Rattle.heap_model.specs.Layouts.{Layouts}
 use Rattle.heap_model.specs.Legal.{IsLegal, replay}
 use Rattle.heap_model.specs.declared.calls.Entry.{Entry}
 
@@ -26,5 +26,5 @@ HasWholePieces cells = (piece : ℕ) → IsWhole (cells_at (8 * piece) 8 cells)
 -- At each moment of a legal history each aligned piece of each live object is whole.
 abbrev pub PiecesLaw : Type 0
 PiecesLaw =
-    (preferred : Preference) (before later : List Entry) → IsLegal preferred (before ++ later)
+    (layouts : Layouts) (before later : List Entry) → IsLegal layouts (before ++ later)
     → AllByRecursion (λ o. HasWholePieces o.body.cells) (replay empty before).live

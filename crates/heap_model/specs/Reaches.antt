@@ -3,6 +3,7 @@
 use Rattle.std.specs.Prelude.{ℕ, suc, ◌+◌, ◌-◌, ◌*◌, ◌%◌, ◌^◌, ℤ, pos, negsuc, Bool, false, ◌&&◌, ◌==◌, nat_le, min, max, Option, Some, None}
 use Rattle.lowfat_regions.specs.Regions.{header_bytes, Slot, is_slot, slot_of, slot_base, region_of, size_of}
 use Rattle.slot_headers.specs.Words.{address_of, version_of, pack}
+use Rattle.heap_model.specs.Answers.{is_inside}
 use Rattle.heap_model.specs.declared.calls.Reach.{Reach}
 
 -- a reach that is cut to the addresses of a part of it
@@ -13,7 +14,7 @@ narrow reach from to =
 
 -- so many bytes at a word are inside a reach
 unfoldable pub inside : Reach → ℕ → ℕ → Bool
-inside reach word width = nat_le reach.lo (address_of word) && nat_le (address_of word + width) reach.hi
+inside reach word width = is_inside reach (address_of word) width
 
 -- a word is within its reach or at its end, and so may be kept
 unfoldable pub may_escape : Reach → ℕ → Bool

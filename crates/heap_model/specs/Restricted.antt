@@ -1,7 +1,7 @@
 -- Histories and their restrictions to regions, whoever numbered the calls.
 use Rattle.std.specs.Prelude.{ℕ, ◌↔◌, List}
 use Rattle.lowfat_regions.specs.Regions.{IsRegion}
-use Rattle.heap_model.specs.Preference.{Preference}
+use Rattle.heap_model.specs.Layouts.{Layouts}
 use Rattle.heap_model.specs.Legal.{IsLegal, InRegions, of_region}
 use Rattle.heap_model.specs.declared.calls.Entry.{Entry}
 
@@ -9,6 +9,6 @@ use Rattle.heap_model.specs.declared.calls.Entry.{Entry}
 -- is legal.
 abbrev pub RestrictionsLaw : Type 0
 RestrictionsLaw =
-    (preferred : Preference) (history : List Entry)
-    → (IsLegal preferred history
-    ↔ (InRegions history × ((r : ℕ) → IsRegion r → IsLegal preferred (of_region r history))))
+    (layouts : Layouts) (history : List Entry)
+    → (IsLegal layouts history
+    ↔ (InRegions history × ((r : ℕ) → IsRegion r → IsLegal layouts (of_region r history))))

@@ -1,24 +1,40 @@
 //! The record of calls and replies.
 
-ghost use Rattle.std.specs.Prelude.{◌≡◌, ◌≤◌, ◌<◌, ◌+◌, ◌-◌, [], ◌∷◌, ◌++◌, length, slice_get, Some, OnOk, OnErr};
+ghost use Rattle.std.specs.Prelude.{◌≡◌, ◌≤◌, ◌<◌, ◌+◌, ◌-◌, ◌^◌, [], ◌∷◌, ◌++◌, length, option_to_list, slice_get, Some, OnOk, OnErr, IfNone};
+ghost use Rattle.heap_model.specs.History.{most_entries};
 
 use crate::calls::Entry;
 use std::alloc::{AllocError, Global};
+use std::collections::VecDeque;
 use std::marker::Model;
+use std::mem;
 
-/// A list of entries, with room for further ones made beforehand.
+/// How many entries a segment has.
+const SEGMENT: usize = 1024;
+
+/// How many segments a history has at most: all together have room for 2^37 entries.
+const MOST_SEGMENTS: usize = 1 << 27;
+
+/// A list of entries, with room for further ones made beforehand. An entry stays where it was put, in a segment of 1,024.
 #[derive(Debug, Drop)]
 pub struct History {
-    entries: Vec<Entry>,
+    alloc: Global,
+    /// The segments in which there is no place left.
+    full: VecDeque<Vec<Entry>>,
+    /// The segment that takes the next entries.
+    last: Vec<Entry>,
 }
 
 impl Model for History {
-    ghost use Rattle.std.specs.Prelude.{◌-◌, vec_len, vec_capacity};
     ghost use Rattle.heap_model.specs.History.{Log};
 
     ghost Value = { Log };
 
-    ghost view = { λ h. record { entries = h.entries.items; spare = vec_capacity h.entries - vec_len h.entries } };
+    ghost use Rattle.heap_model.specs.Segments.{log_of, IsSegmented};
+
+    ghost view = { log_of };
+
+    ghost invariant = { IsSegmented };
 }
 
 impl History {
@@ -27,11 +43,13 @@ impl History {
         ensures { result ≡ record { entries = []; spare = 0 } }
     {
         History {
-            entries: Vec::new(alloc),
+            alloc,
+            full: VecDeque::new(alloc),
+            last: Vec::new(alloc),
         }
     }
 
-    /// Makes room for one more entry, unless there is some.
+    /// Makes room for one more entry, unless there is some. A history of 2^37 entries gets no more.
     pub fn room(&mut self) -> Result<(), AllocError>
         ensures entries { self.new.entries ≡ self.old.entries }
         ensures spare { self.old.spare ≤ self.new.spare }
@@ -39,7 +57,19 @@ impl History {
         ensures err { OnErr result (self.new ≡ self.old) }
         ensures full { OnErr result (self.old.spare ≡ 0) }
     {
-        self.entries.reserve(1)
+        if self.last.len() < self.last.capacity() {
+            return Ok(());
+        }
+        if self.full.len() + 1 >= MOST_SEGMENTS {
+            return Err(AllocError);
+        }
+        self.full.reserve(1)?;
+        let next = Vec::with_capacity(self.alloc, SEGMENT)?;
+        let filled = mem::replace(&mut self.last, next);
+        if !filled.is_empty() {
+            self.full.push_back_reserved(filled);
+        }
+        Ok(())
     }
 
     /// Adds an entry at the end, in a spare place.
@@ -48,14 +78,15 @@ impl History {
         ensures entries { self.new.entries ≡ self.old.entries ++ entry ∷ [] }
         ensures spare { self.new.spare + 1 ≡ self.old.spare }
     {
-        self.entries.push_reserved(entry);
+        self.last.push_reserved(entry);
     }
 
     /// How many entries there are.
     pub fn len(&self) -> u64
-        ensures { result ≡ length self.now.entries }
+        ensures value { result ≡ length self.now.entries }
+        ensures most { result + self.now.spare ≤ most_entries }
     {
-        self.entries.len() as u64
+        self.full.len() as u64 * SEGMENT as u64 + self.last.len() as u64
     }
 
     /// The entry at a place, counted from 0.
@@ -63,6 +94,69 @@ impl History {
         requires { at < length self.now.entries }
         ensures { slice_get self.now.entries at ≡ Some result }
     {
-        self.entries[at as usize]
+        let place = at as usize % SEGMENT;
+        let segment = at as usize / SEGMENT;
+        if segment < self.full.len() {
+            self.full[segment][place]
+        } else {
+            self.last[place]
+        }
+    }
+
+    /// The entries from the first on.
+    pub fn into_entries(self) -> Entries
+        ensures { result ≡ self.entries }
+    {
+        Entries {
+            full: self.full,
+            last: self.last,
+            at: 0,
+        }
+    }
+}
+
+/// The entries of a history that are left to go through. A segment is given up behind its last entry.
+#[derive(Drop)]
+pub struct Entries {
+    full: VecDeque<Vec<Entry>>,
+    last: Vec<Entry>,
+    /// The place of the next entry in the first segment that is left.
+    at: usize,
+}
+
+impl Model for Entries {
+    ghost use Rattle.std.specs.Prelude.{List};
+    ghost use Rattle.heap_model.specs.declared.calls.Entry.{Entry};
+
+    ghost Value = { List Entry };
+
+    ghost use Rattle.heap_model.specs.Segments.{left_of, IsRest};
+
+    ghost view = { left_of };
+
+    ghost invariant = { IsRest };
+}
+
+impl Entries {
+    /// The next entry, or none behind the last.
+    pub fn take_next(&mut self) -> Option<Entry>
+        ensures entries { self.old ≡ option_to_list result ++ self.new }
+        ensures none { IfNone result (self.old ≡ []) }
+    {
+        let Some(first) = self.full.front() else {
+            if self.at >= self.last.len() {
+                return None;
+            }
+            let entry = self.last[self.at];
+            self.at += 1;
+            return Some(entry);
+        };
+        let entry = first[self.at];
+        self.at += 1;
+        if self.at == SEGMENT {
+            let _ = self.full.pop_front();
+            self.at = 0;
+        }
+        Some(entry)
     }
 }

@@ -13,7 +13,7 @@ mod sent;
 pub use access::{low_bytes, sign_extension, width_of};
 pub use calls::{AccessKind, Call, Entry, Reach, Reply, ReportKind, Value};
 pub use forms::{fits, region_for, suits};
-pub use history::History;
+pub use history::{Entries, History};
 pub use history_laws::{law_extension, law_makers, law_pieces, law_replies, law_restrictions};
 pub use laws::{law_accesses_inside, law_apart, law_checks, law_found_preferred};
 pub use objects::{MAX_OBJECTS, offset_of};

@@ -536,21 +536,43 @@ fn calls_have_regions_and_forms(rt: HostRuntime) -> Result<(), Fail> {
     Ok(())
 }
 
-#[test]
-fn a_history_takes_what_there_is_room_for(rt: HostRuntime) -> Result<(), Fail> {
-    let mut history = History::new(rt.alloc());
-    assert_eq!(rt; history.len(), 0);
-    history.room()?;
-    let entry = Entry {
+/// An entry that is told from others by its number.
+fn numbered(number: u64) -> Entry {
+    Entry {
         worker: 1,
-        number: 0,
-        stamp: 1,
+        number,
+        stamp: number,
         region: 1,
         call: free!(0),
         reply: Reply::Done,
-    };
-    history.push(entry);
-    assert_eq!(rt; history.len(), 1);
-    assert_eq!(rt; history.get(0), entry);
+    }
+}
+
+/// The first of so many entries of a history that does not read as it was added, by its place or in its turn.
+fn first_misread(alloc: Global, count: u64) -> Result<Option<u64>, AllocError> {
+    let mut history = History::new(alloc);
+    for number in 0..count {
+        history.room()?;
+        history.push(numbered(number));
+    }
+    for number in 0..history.len() {
+        if history.get(number) != numbered(number) {
+            return Ok(Some(number));
+        }
+    }
+    let mut left = history.into_entries();
+    for number in 0..count {
+        if left.take_next() != Some(numbered(number)) {
+            return Ok(Some(number));
+        }
+    }
+    Ok(left.take_next().map(|entry| entry.number))
+}
+
+#[test]
+fn a_history_keeps_each_entry(rt: HostRuntime) -> Result<(), Fail> {
+    assert_eq!(rt; first_misread(rt.alloc(), 0)?, None);
+    assert_eq!(rt; first_misread(rt.alloc(), 1_024)?, None);
+    assert_eq!(rt; first_misread(rt.alloc(), 5_000)?, None);
     Ok(())
 }

@@ -62,6 +62,10 @@ first_multiple region = (region * 2 ^ 32 + (size_of region - 1)) / size_of regio
 unfoldable pub slot_address : Slot → ℕ
 slot_address s = (first_multiple s.region + s.number) * size_of s.region
 
+-- the address of the first byte of an object in a slot
+abbrev pub object_address : Slot → ℕ
+object_address s = slot_address s + header_bytes
+
 unfoldable pub slot_in : Option ℕ → ℕ → Option Slot
 slot_in None address = None
 slot_in (Some region) address =

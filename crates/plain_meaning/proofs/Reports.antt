@@ -6,7 +6,7 @@ use Rattle.std.specs.Prelude.{pos}
 use Rattle.std.specs.Int.{w64, cast_signed}
 use Rattle.heap_model.specs.Reaches.{may_escape}
 use Rattle.heap_model.specs.Heap.{empty}
-use Rattle.heap_model.specs.Preference.{Preference}
+use Rattle.heap_model.specs.Layouts.{Layouts}
 use Rattle.heap_model.specs.Answers.{Words}
 use Rattle.heap_model.specs.Legal.{Answers, AllocAnswers, IsLegalFrom, after, own}
 use Rattle.heap_model.specs.declared.calls.Call.{Call}
@@ -39,7 +39,7 @@ IsPossible c r = Unit {0}
 abbrev ArePossible : List Entry → Type 0
 ArePossible entries = AllByRecursion (λ e. IsPossible e.call e.reply) entries
 
-module _ (preferred : Preference) (h : Words) (r : ℕ) where
+module _ (layouts : Layouts) (h : Words) (r : ℕ) where
   alloc_possible : (elem size : ℕ) (fixed : Bool) (given : Reply) → AllocAnswers h r given → IsPossible (call.Alloc elem size fixed) given
   unfolding AllocAnswers
   alloc_possible elem size fixed (reply.Placed word) a = tt
@@ -49,7 +49,7 @@ module _ (preferred : Preference) (h : Words) (r : ℕ) where
   alloc_possible elem size fixed (reply.Value v) a = tt
   alloc_possible elem size fixed (reply.Report kind) a = a
 
-  possible : (c : Call) (given : Reply) → Answers preferred h r c given → IsPossible c given
+  possible : (c : Call) (given : Reply) → Answers layouts h r c given → IsPossible c given
   unfolding Answers
   possible (call.Alloc elem size fixed) given a = alloc_possible elem size fixed given a
   possible (call.Free p fixed) given a = tt
@@ -63,11 +63,11 @@ own_first : (worker : ℕ) (e : Entry) (es : List Entry) → IsPossible e.call e
 own_first worker e es first rest true = (first, rest)
 own_first worker e es first rest false = rest
 
-own_possible : (preferred : Preference) (h : Words) (history : List Entry) (worker : ℕ) → IsLegalFrom preferred h history → ArePossible (own history worker)
-own_possible preferred h [] worker legal = tt
-own_possible preferred h (e ∷ es) worker legal =
-    own_first worker e es (possible preferred h e.region e.call e.reply legal.0.answers)
-    (own_possible preferred (after h e) es worker legal.1) (e.worker == worker)
+own_possible : (layouts : Layouts) (h : Words) (history : List Entry) (worker : ℕ) → IsLegalFrom layouts h history → ArePossible (own history worker)
+own_possible layouts h [] worker legal = tt
+own_possible layouts h (e ∷ es) worker legal =
+    own_first worker e es (possible layouts h e.region e.call e.reply legal.0.answers)
+    (own_possible layouts (after h e) es worker legal.1) (e.worker == worker)
 
 -- ---- points
 

@@ -2,7 +2,7 @@
 use Rattle.std.specs.Prelude.{◌≡◌, ℕ, ◌≤◌, ◌-◌, List, [], ◌∷◌, ◌++◌, map}
 use Rattle.std.specs.List.{AllByRecursion}
 use Rattle.c_types.specs.Table.{basic_types}
-use Rattle.heap_model.specs.Preference.{Preference, preference_of}
+use Rattle.heap_model.specs.Layouts.{Layouts, layouts_of}
 use Rattle.heap_model.specs.Legal.{IsLegal, IsWellNumbered, own}
 use Rattle.heap_model.specs.Order.{IsStamped}
 use Rattle.heap_model.specs.declared.calls.Call.{Call}
@@ -53,14 +53,14 @@ pub record InParts (workers : ℕ) (history : List Entry) : Type 0 where
   pub finished_by : AllByRecursion (λ e. e.worker ≡ 0) finish
 
 -- the preferred bounds among the types of these programs
-abbrev pub preferred : Preference
-preferred = preference_of basic_types
+abbrev pub layouts : Layouts
+layouts = layouts_of basic_types
 
 -- The record is that of a run of the program. Its history is one that the heap may give, each worker's calls numbered in
 -- their order, and stamped. Worker 0 opens, worker 1 does what its function means, worker 0 finishes, with the turns that
 -- the opening left it; and each was asked and told what its own entries say.
 pub record Run (program : Program) (setting : Setting) (run : Record) : Type 0 where
-  pub legal : IsLegal preferred run.history.entries
+  pub legal : IsLegal layouts run.history.entries
   pub numbered : IsWellNumbered run.history.entries
   pub stamped : IsStamped run.history.entries
   pub parts : InParts 1 run.history.entries

@@ -8,7 +8,7 @@ use Rattle.c_types.specs.Table.{Types}
 use Rattle.heap_model.specs.Answers.{Words, next}
 use Rattle.heap_model.specs.Forms.{suits_call}
 use Rattle.heap_model.specs.Legal.{Answers}
-use Rattle.heap_model.specs.Preference.{preference_of}
+use Rattle.heap_model.specs.Layouts.{layouts_of}
 use Rattle.heap_model.specs.State.{State, StandsFor}
 use Rattle.heap_model.specs.declared.calls.Reply.{Reply}
 use Rattle.typed_heap.specs.Takes.{KnowsElements}
@@ -77,7 +77,7 @@ module _ (types : Types) (heaps : List State) (r : ℕ) (call : Call) (was now :
   stood h stands = subst (λ s. StandsFor s h) (sym was_is) stands
 
   pub steps-from : {E : Type 0} (result : Result Reply E)
-      → IfOk result (λ reply. (h : Words) → StandsFor was h → Answers (preference_of types) h was.region call reply)
+      → IfOk result (λ reply. (h : Words) → StandsFor was h → Answers (layouts_of types) h was.region call reply)
       → IfOk result (λ reply. (worker number : ℕ) (h : Words) → StandsFor was h → StandsFor now (next worker number h call reply))
       → IfOk result (λ reply. suits_call call reply ≡ true)
       → IfOk result (λ reply. Steps types heaps (set heaps (r - 1) now) r call reply)
@@ -85,7 +85,7 @@ module _ (types : Types) (heaps : List State) (r : ℕ) (call : Call) (was now :
   steps-from (Ok reply) answers nexts suits = record {
     others = λ q apart. heap_of-set_other heaps r q now low apart;
     region_is = ap (λ h. h.region) here ∙ same_region ∙ region_was;
-    answers = λ h stands. subst (λ q. Answers (preference_of types) h q call reply) region_was (answers h (stood h stands));
+    answers = λ h stands. subst (λ q. Answers (layouts_of types) h q call reply) region_was (answers h (stood h stands));
     next = λ worker number h stands. subst (λ s. StandsFor s (next worker number h call reply)) (sym here) (nexts worker number h (stood h stands));
     elements = subst (KnowsElements types) (sym here) elements;
     suits = suits;

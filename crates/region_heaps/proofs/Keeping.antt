@@ -1,16 +1,18 @@
 -- What is kept true from one call to the next.
 use Rattle.std.proofs.Common.{◌≡◌, ◌≢◌, ℕ, ◌+◌, true, List, [], ◌∷◌, ◌++◌, length, Some, refl, sym, ap, ◌∙◌, subst, arith, ◌⊎◌, inl, inr, length-append}
-use Rattle.std.proofs.lemmas.Bool.{cases_eq}
+use Rattle.std.proofs.lemmas.Bool.{and_from, cases_eq, le-leb}
 use Rattle.std.proofs.lemmas.Option.{none-some}
-use Rattle.c_types.specs.Table.{Types}
+use Rattle.c_types.specs.Table.{Types, HasSize}
 use Rattle.heap_model.specs.Forms.{fits_call, region_for}
 use Rattle.heap_model.specs.Heap.{empty}
-use Rattle.heap_model.specs.Legal.{IsLegal, Meets, of_region, own, replay}
-use Rattle.heap_model.specs.Preference.{preference_of}
+use Rattle.heap_model.specs.Legal.{IsLegal, Meets, knows_types, of_region, own, replay}
+use Rattle.heap_model.specs.Layouts.{layouts_of}
 use Rattle.heap_model.specs.State.{State, StandsFor, SlotState}
+use Rattle.heap_model.specs.declared.calls.Call.{Call}
+use Rattle.heap_model.specs.declared.calls.Call.TheVariants.{Alloc, Free, Check, Load, Store, Add}
 use Rattle.heap_model.specs.declared.calls.Entry.{Entry}
 use Rattle.heap_model.proofs.Push.{IsLegal-push, replay-push}
-use Rattle.typed_heap.specs.Takes.{KnowsElements}
+use Rattle.typed_heap.specs.Takes.{KnowsElements, KnowsTypes}
 use Rattle.typed_heap.specs.SlotStates.{state_at}
 use Rattle.region_heaps.specs.Kept.{IsHeapOf, Keeps}
 use Rattle.region_heaps.specs.Regions.{AreEmpty, Steps, heap_of}
@@ -56,18 +58,30 @@ Keeps-along {types} {heaps} {counts} {history} keeps heaps' same_heaps counts' s
 
 -- ---- after a call
 
+-- a type that has a size is one of those that there are
+has-type : (types : Types) (n : ℕ) → HasSize types n → (layouts_of types).has n ≡ true
+has-type types n size = and_from _ _ (and_from _ _ (le-leb _ _ size.0.0) (le-leb _ _ size.0.1)) size.1
+
+knows-types : (types : Types) (call : Call) → KnowsTypes types call → knows_types (layouts_of types) call ≡ true
+knows-types types (Alloc elem size fixed) known = has-type types elem known
+knows-types types (Free p fixed) known = refl
+knows-types types (Check p want) known = has-type types want known
+knows-types types (Load p reach kind) known = refl
+knows-types types (Store p reach kind value) known = refl
+knows-types types (Add p reach kind value) known = refl
+
 module _ (types : Types) (old new : List State) (history : List Entry) (e : Entry)
-    (home : region_for e.call ≡ Some e.region) (fits : fits_call e.call ≡ true) (steps : Steps types old new e.region e.call e.reply) where
+    (home : region_for e.call ≡ Some e.region) (fits : fits_call e.call ≡ true) (known : KnowsTypes types e.call) (steps : Steps types old new e.region e.call e.reply) where
   here : IsHeapOf types (heap_of old e.region) e.region (of_region e.region history) → IsHeapOf types (heap_of new e.region) e.region (of_region e.region (history ++ e ∷ []))
   here was =
       let before : List Entry = of_region e.region history in
       let added = of_region-push_here history e e.region refl in
-      let meets : Meets (preference_of types) (replay empty before) e = record { fits = fits; region_is = home; answers = steps.answers (replay empty before) was.stands } in
+      let meets : Meets (layouts_of types) (replay empty before) e = record { fits = fits; types = knows-types types e.call known; region_is = home; answers = steps.answers (replay empty before) was.stands } in
       let stands : StandsFor (heap_of new e.region) (replay empty (before ++ e ∷ [])) =
       subst (StandsFor (heap_of new e.region)) (sym (replay-push empty before e)) (steps.next e.worker e.number (replay empty before) was.stands) in
       record {
         region_is = steps.region_is;
-        legal = subst (IsLegal (preference_of types)) (sym added) (IsLegal-push (preference_of types) empty before e was.legal meets);
+        legal = subst (IsLegal (layouts_of types)) (sym added) (IsLegal-push (layouts_of types) empty before e was.legal meets);
         stands = subst (λ es. StandsFor (heap_of new e.region) (replay empty es)) (sym added) stands;
         elements = steps.elements;
       }

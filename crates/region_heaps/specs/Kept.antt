@@ -3,7 +3,7 @@ use Rattle.std.specs.Prelude.{◌≡◌, ℕ, ◌≤◌, List, length}
 use Rattle.c_types.specs.Table.{Types, basic_types}
 use Rattle.heap_model.specs.Heap.{empty}
 use Rattle.heap_model.specs.Legal.{InRegions, IsLegal, IsWellNumbered, of_region, own, replay}
-use Rattle.heap_model.specs.Preference.{preference_of}
+use Rattle.heap_model.specs.Layouts.{layouts_of}
 use Rattle.lowfat_regions.specs.Regions.{last_region}
 use Rattle.heap_model.specs.State.{State, StandsFor}
 use Rattle.heap_model.specs.declared.calls.Entry.{Entry}
@@ -20,7 +20,7 @@ entries a = a.history.entries
 -- A heap is that of a region whose entries are these: they are legal, and it stands for the heap that they leave.
 pub record IsHeapOf (types : Types) (heap : State) (region : ℕ) (history : List Entry) : Type 0 where
   pub region_is : heap.region ≡ region
-  pub legal : IsLegal (preference_of types) history
+  pub legal : IsLegal (layouts_of types) history
   pub stands : StandsFor heap (replay empty history)
   pub elements : KnowsElements types heap
 

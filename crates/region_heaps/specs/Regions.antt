@@ -5,7 +5,7 @@ use Rattle.heap_model.specs.Heap.{empty}
 use Rattle.heap_model.specs.Answers.{Words, next}
 use Rattle.heap_model.specs.Forms.{suits_call}
 use Rattle.heap_model.specs.Legal.{Answers}
-use Rattle.heap_model.specs.Preference.{preference_of}
+use Rattle.heap_model.specs.Layouts.{layouts_of}
 use Rattle.heap_model.specs.State.{State, StandsFor}
 use Rattle.heap_model.specs.declared.calls.Call.{Call}
 use Rattle.heap_model.specs.declared.calls.Reply.{Reply}
@@ -33,7 +33,7 @@ AreEmpty heaps last = (region : ℕ) → 1 ≤ region → region ≤ last → Is
 pub record Steps (types : Types) (old new : List State) (region : ℕ) (call : Call) (reply : Reply) : Type 0 where
   pub others : (r : ℕ) → r ≢ region → heap_of new r ≡ heap_of old r
   pub region_is : (heap_of new region).region ≡ region
-  pub answers : (h : Words) → StandsFor (heap_of old region) h → Answers (preference_of types) h region call reply
+  pub answers : (h : Words) → StandsFor (heap_of old region) h → Answers (layouts_of types) h region call reply
   pub next : (worker number : ℕ) (h : Words) → StandsFor (heap_of old region) h → StandsFor (heap_of new region) (next worker number h call reply)
   pub elements : KnowsElements types (heap_of new region)
   pub suits : suits_call call reply ≡ true

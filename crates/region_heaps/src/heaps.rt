@@ -1,12 +1,13 @@
 //! The heaps of all regions with their history.
 
-ghost use Rattle.std.specs.Prelude.{◌≡◌, ◌+◌, ◌^◌, ◌<◌, [], ◌∷◌, ◌++◌, true, length, IsSome, IfOk, OnErr};
+ghost use Rattle.std.specs.Prelude.{◌≡◌, ◌+◌, ◌≤◌, [], ◌∷◌, ◌++◌, true, length, IsSome, IfOk, OnErr};
 ghost use Rattle.c_types.specs.Table.{basic_types};
 ghost use Rattle.heap_model.specs.Forms.{fits_call, suits_call};
 ghost use Rattle.heap_model.specs.Forms as forms;
+ghost use Rattle.heap_model.specs.History.{most_entries};
 ghost use Rattle.heap_model.specs.Legal.{InRegions, IsLegal, IsWellNumbered};
 ghost use Rattle.heap_model.specs.Order.{IsStamped};
-ghost use Rattle.heap_model.specs.Preference.{preference_of};
+ghost use Rattle.heap_model.specs.Layouts.{layouts_of};
 ghost use Rattle.typed_heap.specs.Takes.{KnowsTypes, moves_numbers};
 ghost use Rattle.region_heaps.specs.Entries.{StampsFrom, next_entry};
 
@@ -41,24 +42,17 @@ impl Model for RegionHeaps {
     ghost invariant = { IsKept };
 }
 
-/// The stamp of the next entry of a history. One that is too long for a further stamp is too long for memory.
-fn next_stamp(history: &History) -> Result<u64, AllocError>
-    ensures stamp { IfOk result (λ stamp. stamp ≡ length history.now.entries + 1) }
-    ensures small { IfOk result (λ stamp. stamp < 2 ^ 64) }
-{
-    history.len().checked_add(1).ok_or(AllocError)
-}
-
 /// What holds of each history: it is legal at the preference of the basic types, well numbered and stamped, with the stamps
-/// 1, 2, 3 and so on, and of regions from 1 to 27.
+/// 1, 2, 3 and so on, of regions from 1 to 27, and of 2^37 entries at most.
 pub fn law_history(heaps: &RegionHeaps)
-    ensures legal { IsLegal (preference_of basic_types) heaps.now }
+    ensures legal { IsLegal (layouts_of basic_types) heaps.now }
     ensures numbered { IsWellNumbered heaps.now }
     ensures stamped { IsStamped heaps.now }
     ensures stamps { StampsFrom 1 heaps.now }
     ensures regions { InRegions heaps.now }
+    ensures few { length heaps.now ≤ most_entries }
 {
-    let _ = &heaps.history;
+    let _ = heaps.history.len();
     law_restrictions();
 }
 
@@ -88,7 +82,7 @@ impl RegionHeaps {
     {
         self.history.room()?;
         let number = self.numbers.next(worker)?;
-        let stamp = next_stamp(&self.history)?;
+        let stamp = self.history.len() + 1;
         let region = region_for(call).unwrap();
         let reply = step(&mut self.heaps, &self.types, region, call)?;
         self.history.push(Entry {

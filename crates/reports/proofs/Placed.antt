@@ -5,10 +5,11 @@ use Rattle.std.specs.Option.{option_to_list}
 use Rattle.std.proofs.lemmas.List.Elements.{filter-append}
 use Rattle.lowfat_regions.specs.Regions.{Slot, slot_of}
 use Rattle.slot_headers.specs.Words.{address_of, version_of}
-use Rattle.heap_model.specs.Cells.{Cell, Stores, Adds, access_cells}
+use Rattle.slot_headers.specs.Cells.{Cell}
+use Rattle.heap_model.specs.Cells.{Stores, Adds, access_cells}
 use Rattle.heap_model.specs.Heap.{Object, empty, made_count, with_new, with_dead, with_cells, with_cells_if}
 use Rattle.heap_model.specs.Answers.{Name, Words, names, is_at, slot_at, offset, datum, new_object, next}
-use Rattle.heap_model.specs.Preference.{Preference}
+use Rattle.heap_model.specs.Layouts.{Layouts}
 use Rattle.heap_model.specs.Legal.{Answers, AllocAnswers, IsLegalFrom, IsLegal, after, replay, ApartLaw}
 use Rattle.heap_model.specs.declared.calls.Call.{Call}
 use Rattle.heap_model.specs.declared.calls.Call.TheVariants.{Alloc, Free, Store, Add}
@@ -90,10 +91,10 @@ abbrev HasSlot : Call → Reply → Type 0
 HasSlot (Alloc elem size fixed) (Placed word) = (s : Slot) × (slot_of (address_of word) ≡ Some s)
 HasSlot _ _ = Unit {0}
 
-has_slot : (preferred : Preference) (h : Words) (r : ℕ) (call : Call) (reply : Reply) → Answers preferred h r call reply → HasSlot call reply
+has_slot : (layouts : Layouts) (h : Words) (r : ℕ) (call : Call) (reply : Reply) → Answers layouts h r call reply → HasSlot call reply
 unfolding Answers AllocAnswers
-has_slot preferred h r (Alloc elem size fixed) (Placed word) (room, place) = (place.slot, place.slot_is)
-has_slot preferred h r _ _ a = tt
+has_slot layouts h r (Alloc elem size fixed) (Placed word) (room, place) = (place.slot, place.slot_is)
+has_slot layouts h r _ _ a = tt
 
 name_made : (worker number word : ℕ) (s : Slot) → slot_of (address_of word) ≡ Some s →
     option_to_list (option_map (λ t. (let n : Name = record { slot = t; version = version_of word; worker = worker; number = number } in n)) (slot_of (address_of word)))
@@ -126,29 +127,29 @@ count_step is worker number h _ _ slot = sym (add-zero (made_count is h))
 
 -- ---- histories
 
-count_from : (preferred : Preference) (is : Name → Bool) (h : Words) (es : List Entry) → IsLegalFrom preferred h es →
+count_from : (layouts : Layouts) (is : Name → Bool) (h : Words) (es : List Entry) → IsLegalFrom layouts h es →
     made_count is (replay h es) ≡ made_count is h + passing is (placed_names es)
-count_from preferred is h [] legal = sym (add-zero (made_count is h))
-count_from preferred is h (e ∷ es) (meets, legal) =
+count_from layouts is h [] legal = sym (add-zero (made_count is h))
+count_from layouts is h (e ∷ es) (meets, legal) =
     omega (
       arith,
-      count_from preferred is (after h e) es legal,
-      count_step is e.worker e.number h e.call e.reply (has_slot preferred h e.region e.call e.reply meets.answers),
+      count_from layouts is (after h e) es legal,
+      count_step is e.worker e.number h e.call e.reply (has_slot layouts h e.region e.call e.reply meets.answers),
       passing_cons is (placed_name e) (placed_names es),
     )
 
 pub placed_law : PlacedLaw
-placed_law preferred history legal is = sym (count_from preferred is empty history legal ∙ zero-add (passing is (placed_names history)))
+placed_law layouts history legal is = sym (count_from layouts is empty history legal ∙ zero-add (passing is (placed_names history)))
 
 none_at : (version : ℕ) (ns : List Name) → passing (is_at None version) ns ≡ 0
 none_at version [] = refl
 none_at version (n ∷ ns) = none_at version ns
 
-one_at : ApartLaw → (preferred : Preference) (history : List Entry) → IsLegal preferred history → (s : Option Slot) (version : ℕ) →
+one_at : ApartLaw → (layouts : Layouts) (history : List Entry) → IsLegal layouts history → (s : Option Slot) (version : ℕ) →
     passing (is_at s version) (placed_names history) ≤ 1
-one_at apart preferred history legal None version = omega (arith, none_at version (placed_names history))
-one_at apart preferred history legal (Some s) version =
-    omega (arith, placed_law preferred history legal (is_at (Some s) version), (apart preferred history legal).versions s version)
+one_at apart layouts history legal None version = omega (arith, none_at version (placed_names history))
+one_at apart layouts history legal (Some s) version =
+    omega (arith, placed_law layouts history legal (is_at (Some s) version), (apart layouts history legal).versions s version)
 
 pub one_named_law : ApartLaw → OneNamedLaw
-one_named_law apart preferred history legal anchor word = one_at apart preferred history legal (slot_of anchor) (version_of word)
+one_named_law apart layouts history legal anchor word = one_at apart layouts history legal (slot_of anchor) (version_of word)

@@ -7,7 +7,7 @@ use Rattle.slot_headers.specs.Words.{address_of, version_of}
 use Rattle.heap_model.specs.Objects.{offset_in}
 use Rattle.heap_model.specs.Heap.{empty, made_count}
 use Rattle.heap_model.specs.Answers.{Name, names}
-use Rattle.heap_model.specs.Preference.{Preference}
+use Rattle.heap_model.specs.Layouts.{Layouts}
 use Rattle.heap_model.specs.Legal.{IsLegal, replay}
 use Rattle.heap_model.specs.declared.calls.Call.{Call}
 use Rattle.heap_model.specs.declared.calls.Call.TheVariants.{Alloc}
@@ -36,13 +36,13 @@ object_named history anchor word = find (names anchor word) (placed_names histor
 -- The objects that a legal history placed are those of the heap that it leaves, live and dead: of each kind as many.
 abbrev pub PlacedLaw : Type 0
 PlacedLaw =
-    (preferred : Preference) (history : List Entry) → IsLegal preferred history → (is : Name → Bool) →
+    (layouts : Layouts) (history : List Entry) → IsLegal layouts history → (is : Name → Bool) →
     length (filter is (placed_names history)) ≡ made_count is (replay empty history)
 
 -- A word names at most one object of a legal history by an anchor.
 abbrev pub OneNamedLaw : Type 0
 OneNamedLaw =
-    (preferred : Preference) (history : List Entry) → IsLegal preferred history → (anchor word : ℕ) →
+    (layouts : Layouts) (history : List Entry) → IsLegal layouts history → (anchor word : ℕ) →
     length (filter (names anchor word) (placed_names history)) ≤ 1
 
 -- how far the address of a word is past the first byte of an object, or past address 0, modulo 2^40

@@ -1,7 +1,7 @@
 //! The 16 bytes before an object's first byte.
 
 ghost use Rattle.std.specs.Prelude.{◌≡◌, ◌<◌, length};
-ghost use Rattle.slot_headers.specs.Headers.{HeadersLaw, bytes_of, header_bytes, header_version_bound, version_word};
+ghost use Rattle.slot_headers.specs.Headers.{HeadersLaw, ReadLaw, bytes_of, header_bytes, header_of, header_version_bound, version_word};
 
 /// What marks the version of an object that is fixed.
 const FIXED: u32 = 1 << 31;
@@ -19,6 +19,11 @@ pub struct Header {
 /// A header has the bytes of no other.
 pub fn law_headers()
     ensures { HeadersLaw }
+{}
+
+/// What is read of a header's bytes is that header.
+pub fn law_read()
+    ensures { ReadLaw }
 {}
 
 impl Header {
@@ -51,6 +56,7 @@ impl Header {
     /// Reads the bytes.
     pub fn get(from: &[u8]) -> Header
         requires { length from.now ≡ header_bytes }
+        ensures value { result ≡ header_of from.now }
         ensures bytes { bytes_of result ≡ from.now }
         ensures version { result.version < header_version_bound }
     {

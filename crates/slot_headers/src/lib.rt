@@ -7,6 +7,6 @@ mod tests;
 mod value;
 mod word;
 
-pub use header::{Header, law_headers};
+pub use header::{Header, law_headers, law_read};
 pub use value::Value;
 pub use word::{PtrWord, law_words};

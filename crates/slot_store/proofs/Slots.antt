@@ -9,7 +9,8 @@ use Rattle.std.proofs.lemmas.List.{length-append, length-set, length-take-le, le
 use Rattle.std.proofs.lemmas.List.FromFn.{length-map-range_with_len, get_or-map-range_with_len, map-range_with_len_more}
 use Rattle.std.proofs.lemmas.Grind.{flat_map-append}
 use Rattle.slot_headers.specs.declared.value.Value.{Value}
-use Rattle.slot_store.specs.Cells.{Cell, Byte, bytes, value_cells, zeros, cells_at, put}
+use Rattle.slot_headers.specs.Cells.{Cell, Byte, bytes, zeros, cells_at, put}
+use Rattle.slot_store.specs.Cells.{value_cells}
 use Rattle.slot_store.specs.Words.{zero_word, zero_words, cells, slot_words, slot_cells}
 use Rattle.slot_store.proofs.Digits.{put_between, cells_between}
 use Rattle.slot_store.proofs.Values.{length-value_cells}
@@ -52,11 +53,11 @@ put-word words j v small =
 
 -- zero words are zero bytes
 pub cells-zero_words : (n : ℕ) → cells (zero_words n) ≡ zeros (8 * n)
-unfolding cells zero_words zeros
+unfolding cells zero_words
 cells-zero_words zero = refl
 cells-zero_words (suc n) =
     let sum : 8 + 8 * n ≡ 8 * suc n = omega arith in
-    let one : value_cells zero_word ≡ replicate 8 (Byte 0) = unfold value_cells bytes in refl in
+    let one : value_cells zero_word ≡ replicate 8 (Byte 0) = unfold value_cells in refl in
     ap (λ c. c ++ cells (zero_words n)) one ∙ ap (λ c. replicate 8 (Byte 0) ++ c) (cells-zero_words n)
     ∙ replicate-append-replicate 8 (8 * n) (Byte 0) ∙ ap (λ m. replicate m (Byte 0)) sum
 
@@ -92,7 +93,7 @@ pub length-slot_cells : (n count : ℕ) (words : List Value) → length (slot_ce
 unfolding slot_cells
 length-slot_cells n count words = length-map-range_with_len (λ s. cells (slot_words n words s)) 0 count
 
-pub get_or-slot_cells : (n count : ℕ) (words : List Value) (s : ℕ) (d : List Cell) → s < count
+pub get_or-slot_cells : (n count : ℕ) (words : List Value) (s : ℕ) (d : List (Cell ℕ)) → s < count
     → get_or (slot_cells n count words) s d ≡ cells (slot_words n words s)
 unfolding slot_cells
 get_or-slot_cells n count words s d small = get_or-map-range_with_len (λ t. cells (slot_words n words t)) 0 count s s d small (omega arith)
@@ -116,7 +117,7 @@ other_slot n s t count words words' small room room' before after ne =
     go j d h (inr higher) = let end : s * n + n ≤ t * n = below n s t higher in after (t * n + j) d (omega arith)
 
 -- one slot of other words, and the others as they were
-slot_replaced : (n count s : ℕ) (words words' : List Value) (new : List Cell) → s < count → count * n ≤ length words → count * n ≤ length words'
+slot_replaced : (n count s : ℕ) (words words' : List Value) (new : List (Cell ℕ)) → s < count → count * n ≤ length words → count * n ≤ length words'
     → cells (slot_words n words' s) ≡ new
     → ((k : ℕ) (d : Value) → k < s * n → get_or words' k d ≡ get_or words k d)
     → ((k : ℕ) (d : Value) → s * n + n ≤ k → get_or words' k d ≡ get_or words k d)
@@ -128,7 +129,7 @@ slot_replaced n count s words words' new small room room' here before after =
     let h' : t < count = omega (arith, length-slot_cells n count words') in
     get_or-slot_cells n count words' t d h' ∙ go t d h' (same_or_not t s))
   where
-    go : (t : ℕ) (d : List Cell) → t < count → (t ≡ s) ⊎ (t ≢ s) → cells (slot_words n words' t) ≡ get_or (set (slot_cells n count words) s new) t d
+    go : (t : ℕ) (d : List (Cell ℕ)) → t < count → (t ≡ s) ⊎ (t ≢ s) → cells (slot_words n words' t) ≡ get_or (set (slot_cells n count words) s new) t d
     go t d h (inl e) =
         let inside : s < length (slot_cells n count words) = omega (arith, length-slot_cells n count words) in
         rw e (here ∙ sym (get_or-set_same (slot_cells n count words) s new d inside))

@@ -8,7 +8,8 @@ use Rattle.std.proofs.lemmas.List.{length-set, drop-set-lt, set-set, get_or-set_
 use Rattle.std.proofs.Math.Seq.{drop-append-add}
 use Rattle.lowfat_regions.specs.Regions.{IsRegion, sizes, size_of, slots}
 use Rattle.slot_headers.specs.declared.value.Value.{Value}
-use Rattle.slot_store.specs.Cells.{Cell, value_cells, zeros, cells_at, put}
+use Rattle.slot_headers.specs.Cells.{Cell, zeros, cells_at, put}
+use Rattle.slot_store.specs.Cells.{value_cells}
 use Rattle.slot_store.specs.Slots.{Contents, made, slot_size, cells_of, with_cells, HasWholeSlots}
 use Rattle.slot_store.specs.Words.{zero_words, cells, slot_words, slot_cells, AreSlots}
 use Rattle.slot_store.proofs.Slots.{length-slot_cells, get_or-slot_cells, length-slot_words, get_or-slot_words, cells_at-word, slot_cells-set, slot_cells-clear, slot_cells-append, slot_cells-next, rest-append, rest-next, length-cells}
@@ -231,8 +232,8 @@ no_slots region size words is e none =
     })
 
 -- two writes to one slot
-pub with_cells_twice : (s : Contents) (slot : ℕ) (a b : List Cell) → with_cells (with_cells s slot a) slot b ≡ with_cells s slot b
+pub with_cells_twice : (s : Contents) (slot : ℕ) (a b : List (Cell ℕ)) → with_cells (with_cells s slot a) slot b ≡ with_cells s slot b
 with_cells_twice s slot a b = ap (λ l. record { region = s.region; slots = l }) (set-set s.slots slot a b)
 
-pub cells_of_written : (s : Contents) (slot : ℕ) (a : List Cell) → slot < made s → cells_of (with_cells s slot a) slot ≡ a
+pub cells_of_written : (s : Contents) (slot : ℕ) (a : List (Cell ℕ)) → slot < made s → cells_of (with_cells s slot a) slot ≡ a
 cells_of_written s slot a small = get_or-set_same s.slots slot a [] small

@@ -1,19 +1,20 @@
 -- The cells of words: what a piece of them reads as, and what a store makes of them.
-use Rattle.std.proofs.Common.{◌≡◌, ◌≢◌, ℕ, zero, suc, ◌+◌, ◌-◌, ◌*◌, ◌/◌, ◌%◌, ◌^◌, ◌<◌, ◌≤◌, Bool, true, false, cond, List, ◌∷◌, ◌++◌, length, take, drop, map, Option, Some, None, refl, sym, ap, subst, ◌∙◌, arith, append_assoc, lit≤, inl, inr}
+use Rattle.std.proofs.Common.{◌≡◌, ◌≢◌, ℕ, zero, suc, ◌+◌, ◌-◌, ◌*◌, ◌/◌, ◌%◌, ◌^◌, ◌<◌, ◌≤◌, Bool, true, false, cond, List, [], ◌∷◌, ◌++◌, length, take, drop, map, Option, Some, None, refl, sym, ap, subst, ◌∙◌, arith, append_assoc, lit≤, inl, inr}
 use Rattle.std.specs.Prelude.{◌⊎◌, IfSome}
 use Rattle.std.specs.Int.{w64, to_le_bytes}
 use Rattle.std.proofs.lemmas.Nat.{mod_below, pow_pos}
 use Rattle.std.proofs.Math.Seq.{take-append-add, drop-append-add}
 use Rattle.std.proofs.lemmas.List.{take_at, length-append, length-take, length-drop, take-append-drop, take-append-le, take-take, drop-append-le, drop-drop, drop-take, map-append}
 use Rattle.slot_headers.specs.declared.value.Value.{Value}
-use Rattle.slot_store.specs.Cells.{Cell, Byte, bytes, parts, value_cells, put, number_in, pointer_in, pointer_at, null_of, pointer_or_null, cells_at, without_mark, without_pointer, after_store, byte_in}
+use Rattle.slot_headers.specs.Cells.{Cell, Byte, bytes, parts, put, number_in, pointer_in, cells_at, without_mark, without_pointer}
+use Rattle.slot_store.specs.Cells.{value_cells, pointer_at, null_of, pointer_or_null, after_store, byte_in}
 use Rattle.slot_store.specs.Words.{bits_at, with_bits, number_in_word}
-use Rattle.slot_store.proofs.Digits.{length-bytes, number_in-bytes, put_between, cells_at-bytes, put-bytes, map-byte_le, map-byte_in-byte, map-byte_in-parts}
+use Rattle.slot_store.proofs.Digits.{length-bytes, number_in-bytes, put_nothing, put_between, cells_at-bytes, put-bytes, map-byte_le, map-byte_in-byte, map-byte_in-parts}
 
 -- ---- eight cells
 
 length-cells_of : (p : Bool) (n : ℕ) → length (value_cells (record { bits = n; pointer = p })) ≡ 8
-unfolding value_cells parts
+unfolding value_cells
 length-cells_of true n = refl
 length-cells_of false n = length-bytes 8 n
 
@@ -24,7 +25,6 @@ length-value_cells v = length-cells_of v.pointer v.bits
 
 -- a part among the cells that are read
 pub number_in-parts : (b w p : ℕ) → b + suc w ≤ 8 → number_in (cells_at b (suc w) (parts p)) ≡ None
-unfolding cells_at parts number_in
 number_in-parts zero w p h = refl
 number_in-parts (suc zero) w p h = refl
 number_in-parts (suc (suc zero)) w p h = refl
@@ -44,8 +44,7 @@ number_in-cells true n b (suc w) some inside = number_in-parts b w n inside
 number_in-cells false n b w some inside = ap number_in (cells_at-bytes b w n inside) ∙ number_in-bytes w (n / 2 ^ (8 * b))
 
 -- cells inside an aligned piece of eight
-pub cells_inside : (k w : ℕ) (cells : List Cell) → k % 8 + w ≤ 8 → cells_at k w cells ≡ cells_at (k % 8) w (cells_at (8 * (k / 8)) 8 cells)
-unfolding cells_at
+pub cells_inside : (k w : ℕ) (cells : List (Cell ℕ)) → k % 8 + w ≤ 8 → cells_at k w cells ≡ cells_at (k % 8) w (cells_at (8 * (k / 8)) 8 cells)
 cells_inside k w cells inside =
     let r : ℕ = k % 8 in
     let j : ℕ = 8 * (k / 8) in
@@ -57,7 +56,7 @@ cells_inside k w cells inside =
     ∙ sym (ap (take w) shorter ∙ take-take w (8 - r) (drop r (drop j cells)) (omega arith))
 
 -- what a load gives, by the word that is read
-pub loaded : (k w : ℕ) (cells : List Cell) (v : Value) → 1 ≤ w → k % 8 + w ≤ 8 → cells_at (8 * (k / 8)) 8 cells ≡ value_cells v
+pub loaded : (k w : ℕ) (cells : List (Cell ℕ)) (v : Value) → 1 ≤ w → k % 8 + w ≤ 8 → cells_at (8 * (k / 8)) 8 cells ≡ value_cells v
     → number_in (cells_at k w cells) ≡ cond v.pointer None (Some (bits_at (k % 8) w v.bits))
 loaded k w cells v some inside here =
     ap number_in (cells_inside k w cells inside ∙ ap (cells_at (k % 8) w) here) ∙ number_in-cells v.pointer v.bits (k % 8) w some inside
@@ -77,7 +76,7 @@ pub null_as : (n : ℕ) → n ≢ 0 → null_of n ≡ None
 null_as zero ne = absurd (ne refl)
 null_as (suc n) ne = refl
 
-pub pointer_marked : (k : ℕ) (cells : List Cell) (v : Value) → cells_at k 8 cells ≡ value_cells v → v.pointer ≡ true
+pub pointer_marked : (k : ℕ) (cells : List (Cell ℕ)) (v : Value) → cells_at k 8 cells ≡ value_cells v → v.pointer ≡ true
     → pointer_at k cells ≡ Some v.bits
 unfolding pointer_at
 pointer_marked k cells v here marked =
@@ -85,82 +84,78 @@ pointer_marked k cells v here marked =
     ∙ at_parts v.bits
   where
     at_parts : (n : ℕ) → pointer_or_null (number_in (value_cells (record { bits = n; pointer = true }))) (pointer_in (value_cells (record { bits = n; pointer = true }))) ≡ Some n
-    at_parts n = unfold value_cells parts number_in pointer_in in refl
+    at_parts n = unfold value_cells in refl
 
-pub pointer_plain : (k : ℕ) (cells : List Cell) (v : Value) → cells_at k 8 cells ≡ value_cells v → v.pointer ≡ false → v.bits < 2 ^ 64
+pub pointer_plain : (k : ℕ) (cells : List (Cell ℕ)) (v : Value) → cells_at k 8 cells ≡ value_cells v → v.pointer ≡ false → v.bits < 2 ^ 64
     → pointer_at k cells ≡ null_of v.bits
 unfolding pointer_at value_cells
 pointer_plain k cells v here plain small =
-    let number : number_in (bytes 8 v.bits) ≡ Some v.bits = number_in-bytes 8 v.bits ∙ ap Some (let e : v.bits % 2 ^ 64 ≡ v.bits = omega arith in e) in
+    let number : number_in (bytes {P = ℕ} 8 v.bits) ≡ Some v.bits = number_in-bytes 8 v.bits ∙ ap Some (let e : v.bits % 2 ^ 64 ≡ v.bits = omega arith in e) in
     ap (λ c. pointer_or_null (number_in c) (pointer_in c)) (here ∙ ap (λ p. value_cells (record { bits = v.bits; pointer = p })) plain)
-    ∙ ap (λ n. pointer_or_null n (pointer_in (bytes 8 v.bits))) number
+    ∙ ap (λ n. pointer_or_null n (pointer_in (bytes {P = ℕ} 8 v.bits))) number
 
-pub pointer_given : (k : ℕ) (cells : List Cell) (v : Value) → cells_at k 8 cells ≡ value_cells v → v.bits < 2 ^ 64
+pub pointer_given : (k : ℕ) (cells : List (Cell ℕ)) (v : Value) → cells_at k 8 cells ≡ value_cells v → v.bits < 2 ^ 64
     → (v.pointer ≡ true) ⊎ ((v.pointer ≡ false) × (v.bits ≡ 0)) → Some v.bits ≡ pointer_at k cells
 pointer_given k cells v here small (inl marked) = sym (pointer_marked k cells v here marked)
 pointer_given k cells v here small (inr (plain, null)) = ap Some null ∙ sym (pointer_plain k cells v here plain small ∙ ap null_of null)
 
-pub pointer_refused : (k : ℕ) (cells : List Cell) (v : Value) → cells_at k 8 cells ≡ value_cells v → v.bits < 2 ^ 64
+pub pointer_refused : (k : ℕ) (cells : List (Cell ℕ)) (v : Value) → cells_at k 8 cells ≡ value_cells v → v.bits < 2 ^ 64
     → v.pointer ≡ false → v.bits ≢ 0 → None ≡ pointer_at k cells
 pointer_refused k cells v here small plain ne = sym (pointer_plain k cells v here plain small ∙ null_as v.bits ne)
 
 -- ---- writing
 
 -- the aligned piece of eight between the cells before it and those after it
-pub around : (j : ℕ) (cells : List Cell) → cells ≡ take j cells ++ (cells_at j 8 cells ++ drop (j + 8) cells)
-unfolding cells_at
+pub around : (j : ℕ) (cells : List (Cell ℕ)) → cells ≡ take j cells ++ (cells_at j 8 cells ++ drop (j + 8) cells)
 around j cells =
     sym (take-append-drop j cells) ∙ ap (λ r. take j cells ++ r) (sym (take-append-drop 8 (drop j cells)))
     ∙ ap (λ r. take j cells ++ (take 8 (drop j cells) ++ r)) (drop-drop 8 j cells)
 
-pub length_before : (j : ℕ) (cells : List Cell) → length (cells_at j 8 cells) ≡ 8 → length (take j cells) ≡ j
-unfolding cells_at
+pub length_before : (j : ℕ) (cells : List (Cell ℕ)) → length (cells_at j 8 cells) ≡ 8 → length (take j cells) ≡ j
 length_before j cells e = omega (arith, length-take 8 (drop j cells), length-drop j cells, length-take j cells)
 
 -- the piece replaced
-pub piece_put : (j : ℕ) (new cells : List Cell) → length (cells_at j 8 cells) ≡ 8 → length new ≡ 8
+pub piece_put : (j : ℕ) (new cells : List (Cell ℕ)) → length (cells_at j 8 cells) ≡ 8 → length new ≡ 8
     → put j new cells ≡ take j cells ++ (new ++ drop (j + 8) cells)
 piece_put j new cells size same =
     ap (put j new) (around j cells)
     ∙ put_between j (take j cells) new (cells_at j 8 cells) (drop (j + 8) cells) (length_before j cells size) (size ∙ sym same)
 
 -- cells put inside a piece
-put_after : (r : ℕ) (first new rest : List Cell) → put (length first + r) new (first ++ rest) ≡ first ++ put r new rest
+put_after : (r : ℕ) (first new rest : List (Cell ℕ)) → put (length first + r) new (first ++ rest) ≡ first ++ put r new rest
 unfolding put
-put_after r first new rest =
-    let sum : length first + r + length new ≡ length first + (r + length new) = omega arith in
-    ap (λ f. f ++ (new ++ drop (length first + r + length new) (first ++ rest))) (take-append-add first rest r)
-    ∙ ap (λ n. (first ++ take r rest) ++ (new ++ drop n (first ++ rest))) sum
-    ∙ ap (λ l. (first ++ take r rest) ++ (new ++ l)) (drop-append-add first rest (r + length new))
-    ∙ append_assoc first (take r rest) (new ++ drop (r + length new) rest)
+put_after r [] new rest = let none : 0 + r ≡ r = omega arith in ap (λ n. put n new rest) none
+put_after r (c ∷ first) new rest =
+    let later : length (c ∷ first) + r ≡ suc (length first + r) = omega arith in
+    ap (λ n. put n new ((c ∷ first) ++ rest)) later ∙ ap (λ cells. c ∷ cells) (put_after r first new rest)
 
-put_before : (r : ℕ) (new here last : List Cell) → r + length new ≤ length here → put r new (here ++ last) ≡ put r new here ++ last
+put_before : (r : ℕ) (new here last : List (Cell ℕ)) → r + length new ≤ length here → put r new (here ++ last) ≡ put r new here ++ last
 unfolding put
-put_before r new here last inside =
-    ap (λ f. f ++ (new ++ drop (r + length new) (here ++ last))) (take-append-le r here last (omega arith))
-    ∙ ap (λ l. take r here ++ (new ++ l)) (drop-append-le (r + length new) here last inside)
-    ∙ ap (λ l. take r here ++ l) (sym (append_assoc new (drop (r + length new) here) last))
-    ∙ sym (append_assoc (take r here) (new ++ drop (r + length new) here) last)
+put_before zero [] [] last inside = put_nothing last
+put_before zero (n ∷ new) [] last inside = absurd (omega (arith, inside))
+put_before (suc r) new [] last inside = absurd (omega (arith, inside))
+put_before zero [] (c ∷ here) last inside = refl
+put_before zero (n ∷ new) (c ∷ here) last inside = ap (λ cells. n ∷ cells) (put_before zero new here last (omega (arith, inside)))
+put_before (suc r) new (c ∷ here) last inside = ap (λ cells. c ∷ cells) (put_before r new here last (omega (arith, inside)))
 
-pub put_inside : (j r : ℕ) (first new here last : List Cell) → length first ≡ j → r + length new ≤ length here
+pub put_inside : (j r : ℕ) (first new here last : List (Cell ℕ)) → length first ≡ j → r + length new ≤ length here
     → put (j + r) new (first ++ (here ++ last)) ≡ first ++ (put r new here ++ last)
 put_inside j r first new here last e inside =
     ap (λ n. put (n + r) new (first ++ (here ++ last))) (sym e) ∙ put_after r first new (here ++ last)
     ∙ ap (λ l. first ++ l) (put_before r new here last inside)
 
 -- without its mark a word is its bits, or 0
-map-without_mark-bytes : (w n : ℕ) → map without_mark (bytes w n) ≡ bytes w n
-unfolding bytes
+map-without_mark-bytes : (w n : ℕ) → map without_mark (bytes {P = ℕ} w n) ≡ bytes {P = ℕ} w n
 map-without_mark-bytes zero n = refl
 map-without_mark-bytes (suc w) n = ap (λ r. Byte (n % 256) ∷ r) (map-without_mark-bytes w (n / 256))
 
-map-without_mark-cells : (p : Bool) (n : ℕ) → map without_mark (value_cells (record { bits = n; pointer = p })) ≡ bytes 8 (cond p 0 n)
+map-without_mark-cells : (p : Bool) (n : ℕ) → map without_mark (value_cells (record { bits = n; pointer = p })) ≡ bytes {P = ℕ} 8 (cond p 0 n)
 unfolding value_cells
-map-without_mark-cells true n = unfold parts bytes in refl
+map-without_mark-cells true n = refl
 map-without_mark-cells false n = map-without_mark-bytes 8 n
 
 -- a store of a whole number, by the word that was there
-pub stored : (k w n : ℕ) (cells : List Cell) (v : Value) → k % 8 + w ≤ 8 → cells_at (8 * (k / 8)) 8 cells ≡ value_cells v
+pub stored : (k w n : ℕ) (cells : List (Cell ℕ)) (v : Value) → k % 8 + w ≤ 8 → cells_at (8 * (k / 8)) 8 cells ≡ value_cells v
     → put (8 * (k / 8)) (value_cells (record { bits = with_bits (k % 8) w n (cond v.pointer 0 v.bits); pointer = false })) cells
     ≡ after_store k w n cells
 unfolding after_store without_pointer value_cells
@@ -168,21 +163,21 @@ stored k w n cells v inside here =
     let r : ℕ = k % 8 in
     let j : ℕ = 8 * (k / 8) in
     let plain : ℕ = cond v.pointer 0 v.bits in
-    let first : List Cell = take j cells in
-    let last : List Cell = drop (j + 8) cells in
+    let first : List (Cell ℕ) = take j cells in
+    let last : List (Cell ℕ) = drop (j + 8) cells in
     let place : k ≡ j + r = omega arith in
     let size : length (cells_at j 8 cells) ≡ 8 = ap length here ∙ length-value_cells v in
-    let count : length (bytes w n) ≡ w = length-bytes w n in
-    let eight : length (bytes 8 plain) ≡ 8 = length-bytes 8 plain in
-    let unmarked : map without_mark (cells_at j 8 cells) ≡ bytes 8 plain = ap (map without_mark) here ∙ map-without_mark-cells v.pointer v.bits in
-    let cleared : put j (map without_mark (cells_at j 8 cells)) cells ≡ first ++ (bytes 8 plain ++ last) =
-    ap (λ m. put j m cells) unmarked ∙ piece_put j (bytes 8 plain) cells size (length-bytes 8 plain) in
-    let written : put k (bytes w n) (put j (map without_mark (cells_at j 8 cells)) cells) ≡ first ++ (bytes 8 (with_bits r w n plain) ++ last) =
-    ap (put k (bytes w n)) cleared
-    ∙ ap (λ m. put m (bytes w n) (first ++ (bytes 8 plain ++ last))) place
-    ∙ put_inside j r first (bytes w n) (bytes 8 plain) last (length_before j cells size) (omega arith)
+    let count : length (bytes {P = ℕ} w n) ≡ w = length-bytes w n in
+    let eight : length (bytes {P = ℕ} 8 plain) ≡ 8 = length-bytes 8 plain in
+    let unmarked : map without_mark (cells_at j 8 cells) ≡ bytes {P = ℕ} 8 plain = ap (map without_mark) here ∙ map-without_mark-cells v.pointer v.bits in
+    let cleared : put j (map without_mark (cells_at j 8 cells)) cells ≡ first ++ (bytes {P = ℕ} 8 plain ++ last) =
+    ap (λ m. put j m cells) unmarked ∙ piece_put j (bytes {P = ℕ} 8 plain) cells size (length-bytes 8 plain) in
+    let written : put k (bytes {P = ℕ} w n) (put j (map without_mark (cells_at j 8 cells)) cells) ≡ first ++ (bytes {P = ℕ} 8 (with_bits r w n plain) ++ last) =
+    ap (put k (bytes {P = ℕ} w n)) cleared
+    ∙ ap (λ m. put m (bytes {P = ℕ} w n) (first ++ (bytes {P = ℕ} 8 plain ++ last))) place
+    ∙ put_inside j r first (bytes {P = ℕ} w n) (bytes {P = ℕ} 8 plain) last (length_before j cells size) (omega arith)
     ∙ ap (λ m. first ++ (m ++ last)) (put-bytes r w n plain inside) in
-    piece_put j (bytes 8 (with_bits r w n plain)) cells size (length-bytes 8 (with_bits r w n plain)) ∙ sym written
+    piece_put j (bytes {P = ℕ} 8 (with_bits r w n plain)) cells size (length-bytes 8 (with_bits r w n plain)) ∙ sym written
 
 -- ---- headers
 
@@ -192,28 +187,25 @@ map-byte_in-cells true n = map-byte_in-parts n
 map-byte_in-cells false n = ap (map byte_in) (sym (map-byte_le n)) ∙ map-byte_in-byte (to_le_bytes w64 n)
 
 -- two pieces, one after the other
-pub put_two : (a b cells : List Cell) → length a ≡ 8 → length b ≡ 8 → put 8 b (put 0 a cells) ≡ put 0 (a ++ b) cells
+put_behind : (a b cells : List (Cell ℕ)) → put (length a) b (put 0 a cells) ≡ put 0 (a ++ b) cells
 unfolding put
-put_two a b cells first second =
-    let d : List Cell = drop (0 + length a) cells in
-    let front : take 8 (a ++ d) ≡ a = take_at a d 8 first in
-    let back : drop (8 + length b) (a ++ d) ≡ drop (length b) d =
-    ap (λ n. drop (n + length b) (a ++ d)) (sym first) ∙ drop-append-add a d (length b) in
-    let far : drop (length b) d ≡ drop (0 + length (a ++ b)) cells =
-    drop-drop (length b) (0 + length a) cells ∙ ap (λ n. drop n cells) (let e : 0 + length a + length b ≡ 0 + length (a ++ b) = omega (arith, length-append a b) in e) in
-    ap (λ f. f ++ (b ++ drop (8 + length b) (a ++ d))) front ∙ ap (λ l. a ++ (b ++ l)) (back ∙ far)
-    ∙ sym (append_assoc a b (drop (0 + length (a ++ b)) cells))
+put_behind [] b [] = refl
+put_behind [] b (c ∷ cells) = refl
+put_behind (x ∷ a) b [] = refl
+put_behind (x ∷ a) b (c ∷ cells) = ap (λ cells. x ∷ cells) (put_behind a b cells)
+
+pub put_two : (a b cells : List (Cell ℕ)) → length a ≡ 8 → length b ≡ 8 → put 8 b (put 0 a cells) ≡ put 0 (a ++ b) cells
+put_two a b cells first second = ap (λ n. put n b (put 0 a cells)) (sym first) ∙ put_behind a b cells
 
 -- the first two pieces as the cells of a header
-pub first_two : (cells : List Cell) → cells_at 0 16 cells ≡ cells_at 0 8 cells ++ cells_at 8 8 cells
-unfolding cells_at
+pub first_two : (cells : List (Cell ℕ)) → cells_at 0 16 cells ≡ cells_at 0 8 cells ++ cells_at 8 8 cells
 first_two cells =
     sym (take-append-drop 8 (take 16 (drop 0 cells)))
     ∙ ap (λ f. f ++ drop 8 (take 16 (drop 0 cells))) (take-take 8 16 (drop 0 cells) (lit≤ tt))
     ∙ ap (λ l. take 8 (drop 0 cells) ++ l) (drop-take 8 8 (drop 0 cells))
 
 -- the bytes of the words of a header
-pub header_read : (cells : List Cell) (v w : Value) → cells_at 0 8 cells ≡ value_cells v → cells_at 8 8 cells ≡ value_cells w
+pub header_read : (cells : List (Cell ℕ)) (v w : Value) → cells_at 0 8 cells ≡ value_cells v → cells_at 8 8 cells ≡ value_cells w
     → map byte_in (cells_at 0 16 cells) ≡ to_le_bytes w64 v.bits ++ to_le_bytes w64 w.bits
 header_read cells v w first second =
     ap (map byte_in) (first_two cells ∙ ap (λ c. c ++ cells_at 8 8 cells) first ∙ ap (λ c. value_cells v ++ c) second)

@@ -5,7 +5,8 @@ use Rattle.std.specs.List.{flat_map, range_with_len}
 use Rattle.slot_headers.specs.declared.value.Value.{Value}
 use Rattle.lowfat_regions.specs.Regions as regions
 use Rattle.lowfat_regions.specs.Regions.{IsRegion}
-use Rattle.slot_store.specs.Cells.{Cell, value_cells}
+use Rattle.slot_headers.specs.Cells.{Cell}
+use Rattle.slot_store.specs.Cells.{value_cells}
 
 -- a word of zero bytes that holds no pointer
 abbrev pub zero_word : Value
@@ -32,7 +33,7 @@ abbrev pub with_number : ℕ → ℕ → ℕ → Value → Value
 with_number b w n v = record { bits = with_bits b w n (if v.pointer then 0 else v.bits); pointer = false }
 
 -- the cells of words, one after another
-unfoldable pub cells : List Value → List Cell
+unfoldable pub cells : List Value → List (Cell ℕ)
 cells words = flat_map value_cells words
 
 -- the words of slot s, where each slot has n
@@ -40,7 +41,7 @@ unfoldable pub slot_words : ℕ → List Value → ℕ → List Value
 slot_words n words s = take n (drop (s * n) words)
 
 -- the cells of the first slots
-unfoldable pub slot_cells : ℕ → ℕ → List Value → List (List Cell)
+unfoldable pub slot_cells : ℕ → ℕ → List Value → List (List (Cell ℕ))
 slot_cells n count words = map (λ s. cells (slot_words n words s)) (range_with_len 0 count)
 
 -- So many bytes are a whole number of words.

@@ -3,7 +3,8 @@
 ghost use Rattle.std.specs.Prelude.{◌≡◌, ◌<◌, ◌++◌, map, length};
 ghost use Rattle.std.specs.Int.{to_le_bytes, w64};
 ghost use Rattle.slot_headers.specs.Headers.{header_version_bound};
-ghost use Rattle.slot_store.specs.Cells.{Byte, value_cells, header_cells};
+ghost use Rattle.slot_headers.specs.Cells.{Byte};
+ghost use Rattle.slot_store.specs.Cells.{value_cells, header_cells};
 
 use slot_headers::{Header, Value};
 

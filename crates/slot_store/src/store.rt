@@ -2,9 +2,11 @@
 
 ghost use Rattle.std.specs.Prelude.{◌≡◌, ◌+◌, ◌*◌, ◌/◌, ◌%◌, ◌^◌, ◌<◌, ◌≤◌, [], ◌∷◌, ◌++◌, IfOk, OnErr, IfSome};
 ghost use Rattle.lowfat_regions.specs.Regions.{IsRegion, slots, size_of};
-ghost use Rattle.slot_headers.specs.Headers.{bytes_of, header_version_bound};
-ghost use Rattle.slot_store.specs.Cells.{IsWidth, bytes, parts, zeros, cells_at, number_in, pointer_at, pointer_value};
-ghost use Rattle.slot_store.specs.Cells.{value_cells, put, after_store, header_bytes, header_cells};
+ghost use Rattle.slot_headers.specs.Headers.{bytes_of, header_of, header_version_bound};
+ghost use Rattle.slot_headers.specs.Cells.{bytes, parts, zeros, cells_at, number_in};
+ghost use Rattle.slot_store.specs.Cells.{IsWidth, pointer_at, pointer_value};
+ghost use Rattle.slot_headers.specs.Cells.{put};
+ghost use Rattle.slot_store.specs.Cells.{value_cells, after_store, header_bytes, header_cells};
 ghost use Rattle.slot_store.specs.Slots.{Contents, made, slot_size, cells_of, with_cells, with_cells_at, HasWholeSlots};
 
 use crate::header_words::{bytes_of_words, words_of};
@@ -210,6 +212,7 @@ impl Store {
     /// The header in the first 16 bytes.
     pub fn header(&self, slot: u32) -> Header
         requires { slot < made self.now }
+        ensures value { result ≡ header_of (header_bytes (cells_of self.now slot)) }
         ensures bytes { bytes_of result ≡ header_bytes (cells_of self.now slot) }
         ensures version { result.version < header_version_bound }
     {

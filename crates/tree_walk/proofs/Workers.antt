@@ -15,7 +15,7 @@ use Rattle.plain_meaning.specs.declared.tree.Program.{Program}
 use Rattle.plain_meaning.specs.Tree.{Return, Stop}
 use Rattle.plain_meaning.specs.Acts.{Ends, stands_at, feed}
 use Rattle.plain_meaning.specs.Meaning.{statement, body_of}
-use Rattle.plain_meaning.specs.Run.{Run, Works, InParts, checked_acts, worker_acts, preferred, calls_of, replies_of}
+use Rattle.plain_meaning.specs.Run.{Run, Works, InParts, checked_acts, worker_acts, layouts, calls_of, replies_of}
 use Rattle.tree_walk.specs.declared.stop.Stop.{Stop as StopReason}
 use Rattle.tree_walk.specs.declared.stop.Stop.TheVariants.{Ended, Memory}
 use Rattle.tree_walk.specs.declared.walk.Walk.{Walk}
@@ -88,12 +88,12 @@ in_parts es all = record {
 pub run_is : (program : Program) (setting : Setting) (run : Record) (f : Function) (heaps : List Entry) (ending : Ending) (text : List ℕ) →
     run.history.entries ≡ heaps → slice_get program.functions setting.entry ≡ Some f →
     Works (checked_acts setting.turns (body_of setting.turns (Some f))) heaps ending text → AllByRecursion (λ e. e.worker ≡ 1) heaps →
-    IsLegal preferred heaps → IsWellNumbered heaps → IsStamped heaps → run.endings ≡ Finished ∷ ending ∷ [] → run.texts ≡ [] ∷ text ∷ [] ∷ [] →
+    IsLegal layouts heaps → IsWellNumbered heaps → IsStamped heaps → run.endings ≡ Finished ∷ ending ∷ [] → run.texts ≡ [] ∷ text ∷ [] ∷ [] →
     Run program setting run
 run_is program setting run f heaps ending text same found worked alone legal numbered stamped endings texts =
     let alone_here = subst (AllByRecursion (λ e. e.worker ≡ 1)) (sym same) alone in
     record {
-      legal = subst (IsLegal preferred) (sym same) legal;
+      legal = subst (IsLegal layouts) (sym same) legal;
       numbered = subst IsWellNumbered (sym same) numbered;
       stamped = subst IsStamped (sym same) stamped;
       parts = in_parts run.history.entries alone_here;

@@ -4,7 +4,8 @@ use Rattle.std.specs.Prelude.{nat_le}
 use Rattle.std.proofs.lemmas.Bool.{eq-eqb, leb-true, and_parts}
 use Rattle.lowfat_regions.specs.Regions.{Slot}
 use Rattle.slot_headers.specs.Words.{address_of, version_of}
-use Rattle.heap_model.specs.Cells.{Cell, Act, Loads, Stores, Number, Gave, width, bytes, put, without_pointer, cells_after_store, load_outcome, sign_extension, number_in, pointer_in, cells_at, access_report, outcome_inside, report_or, access_outcome, access_cells}
+use Rattle.slot_headers.specs.Cells.{Cell, bytes, put, without_pointer, number_in, pointer_in, cells_at}
+use Rattle.heap_model.specs.Cells.{Act, Loads, Stores, Number, Gave, width, cells_after_store, load_outcome, sign_extension, access_report, outcome_inside, report_or, access_outcome, access_cells}
 use Rattle.heap_model.specs.Heap.{Body, access_at, with_cells}
 use Rattle.heap_model.specs.Answers.{Words, Live, access, after_access, is_inside, offset, reply, is_at}
 use Rattle.heap_model.specs.Forms.{is_number, can_give, is_access_report}

@@ -6,7 +6,7 @@ use Rattle.c_types.specs.Table.{Types, HasSize}
 use Rattle.free_slots.specs.Slots.{last_resting}
 use Rattle.lowfat_regions.specs.Regions.{Slot, slots}
 use Rattle.slot_headers.specs.Words.{version_of}
-use Rattle.heap_model.specs.Cells.{Cell}
+use Rattle.slot_headers.specs.Cells.{Cell}
 use Rattle.heap_model.specs.Heap.{Body, with_dead}
 use Rattle.heap_model.specs.Answers.{Words, names, is_at}
 use Rattle.heap_model.specs.State.{State, StandsFor, ChangesSlot, SlotState, fresh_slot, state_of, live_at, live_by}

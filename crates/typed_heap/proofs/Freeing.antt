@@ -6,7 +6,7 @@ use Rattle.lowfat_regions.specs.Regions.{slot_of, slot_in as slot_within, region
 use Rattle.slot_headers.specs.Words.{address_of, version_of}
 use Rattle.heap_model.specs.Heap.{Body, Object, free_outcome}
 use Rattle.heap_model.specs.Answers.{Name, Words, Live, Dead, next, answer_by, check_reply, found_reply, first_byte, offset, slot_at, reply, unless_null}
-use Rattle.heap_model.specs.Preference.{Preference}
+use Rattle.heap_model.specs.Layouts.{Layouts}
 use Rattle.heap_model.specs.State.{State, StandsFor}
 use Rattle.type_layout.specs.declared.preference.Bounds.{Bounds}
 use Rattle.heap_model.specs.declared.calls.Call.TheVariants.{Free, Check}
@@ -15,38 +15,38 @@ use Rattle.heap_model.specs.declared.calls.Reply.TheVariants.{Done, Report, Foun
 use Rattle.heap_model.specs.declared.calls.ReportKind.TheVariants.{Null, BadFree, WrongType}
 use Rattle.typed_heap.specs.Naming.{IsInSlot, nth_slot}
 
-module _ (preferred : Preference) (live : Live) (dead : Dead) (p : ℕ) where
+module _ (layouts : Layouts) (live : Live) (dead : Dead) (p : ℕ) where
   module _ (fixed : Bool) where
     at-object : Reply
     at-object = reply (free_outcome (offset (address_of p) p) fixed (live (address_of p) p) (dead (address_of p) p))
 
-    pub free-zero : p ≡ 0 → Done ≡ answer_by preferred live dead (Free p fixed)
+    pub free-zero : p ≡ 0 → Done ≡ answer_by layouts live dead (Free p fixed)
     unfolding answer_by at-object
     free-zero zero = sym (ap (λ b. cond b Done (unless_null p (Report BadFree) at-object)) (eq-eqb p 0 zero))
 
-    pub free-null : (p ≡ 0 → ⊥) → (version_of p == 0) ≡ true → Report BadFree ≡ answer_by preferred live dead (Free p fixed)
+    pub free-null : (p ≡ 0 → ⊥) → (version_of p == 0) ≡ true → Report BadFree ≡ answer_by layouts live dead (Free p fixed)
     unfolding answer_by at-object
     free-null some null =
         sym (ap (λ b. cond b Done (unless_null p (Report BadFree) at-object)) (ne_eqb p 0 some) ∙ ap (λ b. cond b (Report BadFree) at-object) null)
 
     pub free-at : (p ≡ 0 → ⊥) → (version_of p == 0) ≡ false → (o : Option (Body ℕ)) (d : Bool) → live (address_of p) p ≡ o → dead (address_of p) p ≡ d
-        → reply (free_outcome (offset (address_of p) p) fixed o d) ≡ answer_by preferred live dead (Free p fixed)
+        → reply (free_outcome (offset (address_of p) p) fixed o d) ≡ answer_by layouts live dead (Free p fixed)
     unfolding answer_by at-object
     free-at some not_null o d e f =
         sym (ap (λ b. cond b Done (unless_null p (Report BadFree) at-object)) (ne_eqb p 0 some) ∙ ap (λ b. cond b (Report BadFree) at-object) not_null
         ∙ (λ i. reply (free_outcome (offset (address_of p) p) fixed (e i) (f i))))
 
   module _ (want : ℕ) where
-    pub check-null : (version_of p == 0) ≡ true → Report Null ≡ answer_by preferred live dead (Check p want)
+    pub check-null : (version_of p == 0) ≡ true → Report Null ≡ answer_by layouts live dead (Check p want)
     unfolding answer_by
-    check-null null = sym (ap (λ b. cond b (Report Null) (check_reply preferred (offset (address_of p) p) (first_byte (address_of p)) want (live (address_of p) p))) null)
+    check-null null = sym (ap (λ b. cond b (Report Null) (check_reply layouts (offset (address_of p) p) (first_byte (address_of p)) want (live (address_of p) p))) null)
 
     pub check-at : (version_of p == 0) ≡ false → (o : Option (Body ℕ)) → live (address_of p) p ≡ o
-        → check_reply preferred (offset (address_of p) p) (first_byte (address_of p)) want o ≡ answer_by preferred live dead (Check p want)
+        → check_reply layouts (offset (address_of p) p) (first_byte (address_of p)) want o ≡ answer_by layouts live dead (Check p want)
     unfolding answer_by
     check-at not_null o e =
-        sym (ap (λ b. cond b (Report Null) (check_reply preferred (offset (address_of p) p) (first_byte (address_of p)) want (live (address_of p) p))) not_null
-        ∙ ap (check_reply preferred (offset (address_of p) p) (first_byte (address_of p)) want) e)
+        sym (ap (λ b. cond b (Report Null) (check_reply layouts (offset (address_of p) p) (first_byte (address_of p)) want (live (address_of p) p))) not_null
+        ∙ ap (check_reply layouts (offset (address_of p) p) (first_byte (address_of p)) want) e)
 
 -- the first byte, where an address is in a slot
 pub first-here : (st : State) (anchor n : ℕ) → IsInSlot st anchor n → first_byte anchor ≡ slot_address (nth_slot st n) + 16

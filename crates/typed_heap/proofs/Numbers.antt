@@ -4,7 +4,7 @@ use Rattle.std.proofs.lemmas.List.{drop-map, take-map}
 use Rattle.std.proofs.lemmas.Nat.{pow-add}
 use Rattle.std.proofs.Math.Pow.{pow_mono}
 use Rattle.std.specs.Prelude.{option_map}
-use Rattle.heap_model.specs.Cells.{Cell, Byte, bytes, number_in, put, without_mark, cells_at, without_pointer}
+use Rattle.slot_headers.specs.Cells.{Cell, Byte, bytes, number_in, put, without_mark, cells_at, without_pointer}
 use Rattle.typed_heap.specs.View.{cells}
 
 -- the number of these bytes, the lowest first

@@ -5,7 +5,7 @@ use Rattle.std.proofs.lemmas.Bool.{and_from, eq-eqb, lt-ltb, false≢true}
 use Rattle.std.proofs.lemmas.List.Sums.{sum_by-cons}
 use Rattle.lowfat_regions.specs.Regions.{Slot, slot_of, slot_address, slots}
 use Rattle.slot_headers.specs.Words.{address_of, version_of}
-use Rattle.heap_model.specs.Cells.{Byte, zeros}
+use Rattle.slot_headers.specs.Cells.{Byte, zeros}
 use Rattle.heap_model.specs.Heap.{Body, Object, is_full}
 use Rattle.heap_model.specs.Answers.{Name, Words, region, slot_at, new_object, next}
 use Rattle.heap_model.specs.Forms.{has_version}

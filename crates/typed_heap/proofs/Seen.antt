@@ -5,7 +5,7 @@ use Rattle.std.proofs.lemmas.List.{map-set, get_or-map, length-map}
 use Rattle.std.proofs.lemmas.List.Sums.{sum_by-set, get_or-le-sum_by}
 use Rattle.std.proofs.lemmas.Bool.{cond-true, lt-ltb}
 use Rattle.std.specs.Prelude.{nat_lt}
-use Rattle.heap_model.specs.Cells.{Cell}
+use Rattle.slot_headers.specs.Cells.{Cell}
 use Rattle.heap_model.specs.Heap.{Body}
 use Rattle.heap_model.specs.State.{SlotState, fresh_slot}
 use Rattle.typed_heap.specs.declared.object.Object.{Object}

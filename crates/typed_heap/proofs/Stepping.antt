@@ -5,7 +5,7 @@ use Rattle.heap_model.specs.Cells.{Number, Loads, Stores}
 use Rattle.heap_model.specs.Answers.{Words, access, answer_by}
 use Rattle.heap_model.specs.Forms.{is_number, may_store}
 use Rattle.heap_model.specs.Legal.{Answers}
-use Rattle.heap_model.specs.Preference.{Preference}
+use Rattle.heap_model.specs.Layouts.{Layouts}
 use Rattle.heap_model.specs.State.{State, StandsFor, live_by, dead_by}
 use Rattle.heap_model.proofs.State.{answer-same}
 use Rattle.heap_model.specs.declared.calls.AccessKind.{AccessKind}
@@ -15,23 +15,23 @@ use Rattle.heap_model.specs.declared.calls.Value.{Value}
 use Rattle.heap_model.specs.declared.calls.Call.TheVariants.{Free, Check, Load, Store}
 use Rattle.heap_model.specs.declared.calls.Reply.{Reply}
 
-module _ (preferred : Preference) (st : State) (h : Words) (stands : StandsFor st h) (r : ℕ) (reply : Reply) where
-  pub free-answers : (p : ℕ) (fixed : Bool) → reply ≡ answer_by preferred (live_by st) (dead_by st) (Free p fixed) → Answers preferred h r (Free p fixed) reply
+module _ (layouts : Layouts) (st : State) (h : Words) (stands : StandsFor st h) (r : ℕ) (reply : Reply) where
+  pub free-answers : (p : ℕ) (fixed : Bool) → reply ≡ answer_by layouts (live_by st) (dead_by st) (Free p fixed) → Answers layouts h r (Free p fixed) reply
   unfolding Answers
-  free-answers p fixed e = e ∙ sym (answer-same st h stands preferred (Free p fixed))
+  free-answers p fixed e = e ∙ sym (answer-same st h stands layouts (Free p fixed))
 
-  pub check-answers : (p want : ℕ) → reply ≡ answer_by preferred (live_by st) (dead_by st) (Check p want) → Answers preferred h r (Check p want) reply
+  pub check-answers : (p want : ℕ) → reply ≡ answer_by layouts (live_by st) (dead_by st) (Check p want) → Answers layouts h r (Check p want) reply
   unfolding Answers
-  check-answers p want e = e ∙ sym (answer-same st h stands preferred (Check p want))
+  check-answers p want e = e ∙ sym (answer-same st h stands layouts (Check p want))
 
-  pub load-answers : (p : ℕ) (reach : Reach) (kind : AccessKind) → reply ≡ access (live_by st) p reach kind Loads → Answers preferred h r (Load p reach kind) reply
+  pub load-answers : (p : ℕ) (reach : Reach) (kind : AccessKind) → reply ≡ access (live_by st) p reach kind Loads → Answers layouts h r (Load p reach kind) reply
   unfolding Answers answer_by
-  load-answers p reach kind e = e ∙ sym (answer-same st h stands preferred (Load p reach kind))
+  load-answers p reach kind e = e ∙ sym (answer-same st h stands layouts (Load p reach kind))
 
   pub store-answers : (p : ℕ) (reach : Reach) (kind : AccessKind) (bits : ℕ) → reply ≡ access (live_by st) p reach kind (Stores (Number bits))
-      → Answers preferred h r (Store p reach kind (record { bits = bits; pointer = false })) reply
+      → Answers layouts h r (Store p reach kind (record { bits = bits; pointer = false })) reply
   unfolding Answers answer_by
-  store-answers p reach kind bits e = e ∙ sym (answer-same st h stands preferred (Store p reach kind (record { bits = bits; pointer = false })))
+  store-answers p reach kind bits e = e ∙ sym (answer-same st h stands layouts (Store p reach kind (record { bits = bits; pointer = false })))
 
 -- a value that is stored as a whole number is plain
 plain : (b : Bool) → not b ≡ true → b ≡ false

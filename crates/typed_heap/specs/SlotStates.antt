@@ -1,6 +1,6 @@
 -- What is kept of the slots of a region, as a list by their numbers.
 use Rattle.std.specs.Prelude.{ℕ, ◌+◌, nat_lt, List, [], ◌∷◌, ◌++◌, length, get_or, set, sum_by, is_some, Some, None, if◌then◌else◌}
-use Rattle.heap_model.specs.Cells.{Cell}
+use Rattle.slot_headers.specs.Cells.{Cell}
 use Rattle.heap_model.specs.Heap.{Body}
 use Rattle.heap_model.specs.State.{SlotState, fresh_slot, one_if}
 

@@ -2,7 +2,7 @@
 use Rattle.std.specs.Prelude.{◌≡◌, ℕ, ◌≤◌, List, map, length, option_map, is_some}
 use Rattle.std.specs.FinSet.{contains}
 use Rattle.free_slots.specs.Slots.{Slots, live_count, made_count, resting_slots}
-use Rattle.heap_model.specs.Cells.{Cell, Byte}
+use Rattle.slot_headers.specs.Cells.{Cell, Byte}
 use Rattle.heap_model.specs.Heap.{Body}
 use Rattle.heap_model.specs.State.{SlotState}
 use Rattle.typed_heap.specs.declared.object.Object.{Object}

@@ -1,7 +1,7 @@
 //! Numbers in bytes, the lowest byte first.
 
 ghost use Rattle.std.specs.Prelude.{◌≡◌, ◌+◌, ◌*◌, ◌^◌, ◌≤◌, ◌<◌, Some, length};
-ghost use Rattle.heap_model.specs.Cells as model;
+ghost use Rattle.slot_headers.specs.Cells as model;
 ghost use Rattle.typed_heap.specs.View.{cells};
 
 /// The number that `width` bytes hold, from the place `from` on.

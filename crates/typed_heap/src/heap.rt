@@ -8,7 +8,7 @@ ghost use Rattle.heap_model.specs.Cells.{Loads, Stores, Number};
 ghost use Rattle.heap_model.specs.Forms.{fits_call, is_free_report, is_number, region_for, suits_alloc, suits_call, suits_check, suits_free, suits_load, suits_store};
 ghost use Rattle.heap_model.specs.Heap.{Body, empty, free_outcome};
 ghost use Rattle.heap_model.specs.Legal.{Answers, AllocAnswers};
-ghost use Rattle.heap_model.specs.Preference.{Preference, preference_of};
+ghost use Rattle.heap_model.specs.Layouts.{Layouts, layouts_of};
 ghost use Rattle.heap_model.specs.Objects.{max_objects};
 ghost use Rattle.heap_model.specs.State.{StandsFor, live_objects, all_versions, live_by, dead_by};
 ghost use Rattle.lowfat_regions.specs.Regions as regions;
@@ -114,7 +114,7 @@ impl RegionHeap {
     /// The word of the first byte of the last object of a slot.
     fn word(&self, slot: u32) -> u64
         requires { slot < length self.now.states }
-        ensures address { address_of result ≡ regions.slot_address (nth_slot self.now slot) + regions.header_bytes }
+        ensures address { address_of result ≡ regions.object_address (nth_slot self.now slot) }
         ensures slot { regions.slot_of (address_of result) ≡ Some (nth_slot self.now slot) }
         ensures version { version_of result ≡ (state_at self.now.states slot).versions }
     {
@@ -191,7 +191,7 @@ impl RegionHeap {
 
     /// Ends the object that a word names.
     fn free(&mut self, p: u64, fixed: bool) -> Reply
-        ensures answer { (preferred : Preference) → result ≡ answer_by preferred (live_by self.old) (dead_by self.old) (Call.Free p fixed) }
+        ensures answer { (layouts : Layouts) → result ≡ answer_by layouts (live_by self.old) (dead_by self.old) (Call.Free p fixed) }
         ensures next { (worker number : ℕ) (h : Words) → StandsFor self.old h → StandsFor self.new (next worker number h (Call.Free p fixed) result) }
         ensures suits { suits_free result ≡ true }
         ensures elements { (types : Types) → KnowsElements types self.old → KnowsElements types self.new }
@@ -250,7 +250,7 @@ impl RegionHeap {
     fn check(&self, types: &TypeTable, p: u64, want: TypeNo) -> Result<Reply, AllocError>
         requires want { HasSize types.now want }
         requires elements { KnowsElements types.now self.now }
-        ensures answer { IfOk result (λ reply. reply ≡ answer_by (preference_of types.now) (live_by self.now) (dead_by self.now) (Call.Check p want)) }
+        ensures answer { IfOk result (λ reply. reply ≡ answer_by (layouts_of types.now) (live_by self.now) (dead_by self.now) (Call.Check p want)) }
         ensures suits { IfOk result (λ reply. suits_check reply ≡ true) }
     {
         let (address, version) = PtrWord::parts(p);
@@ -283,7 +283,7 @@ impl RegionHeap {
         requires want { HasSize types.now want }
         requires elements { KnowsElements types.now self.now }
         ensures value { IfOk result (λ bounds. (o : Body ℕ) → (state_at self.now.states slot).body ≡ Some o
-            → bounds ≡ preference_of types.now o.elem (length o.cells) offset want) }
+            → bounds ≡ (layouts_of types.now).preferred o.elem (length o.cells) offset want) }
         ensures small { IfOk result (λ bounds. IfSome bounds (λ b. (b.lo < 2 ^ 63) × (b.hi < 2 ^ 63))) }
     {
         let Some(object) = self.slots.object(slot) else {
@@ -365,7 +365,7 @@ impl RegionHeap {
         requires types { KnowsTypes types.now call.now }
         requires elements { KnowsElements types.now self.old }
         ensures answers { IfOk result (λ reply. (h : Words) → StandsFor self.old h
-            → Answers (preference_of types.now) h self.old.region call.now reply) }
+            → Answers (layouts_of types.now) h self.old.region call.now reply) }
         ensures next { IfOk result (λ reply. (worker number : ℕ) (h : Words) → StandsFor self.old h
             → StandsFor self.new (next worker number h call.now reply)) }
         ensures suits { IfOk result (λ reply. suits_call call.now reply ≡ true) }

@@ -3,7 +3,8 @@
 ghost use Rattle.std.specs.Prelude.{◌≡◌, ◌≢◌, ◌+◌, ◌*◌, ◌^◌, ◌≤◌, ◌<◌, ℕ, [], ◌∷◌, ◌++◌, true, Some, None, Contains, length, map, IfOk, OnErr, is_some, set, vec_capacity};
 ghost use Rattle.std.specs.Option.{option_map};
 ghost use Rattle.free_slots.specs.Slots.{last_resting};
-ghost use Rattle.heap_model.specs.Cells as model;
+ghost use Rattle.slot_headers.specs.Cells as model;
+ghost use Rattle.slot_headers.specs.Words.{version_bound};
 ghost use Rattle.heap_model.specs.Heap.{Body};
 ghost use Rattle.typed_heap.specs.SlotStates.{state_at, count_live, count_made, with_object, without_object, with_cells_of};
 ghost use Rattle.typed_heap.specs.View.{body, state_of_row};
@@ -46,7 +47,7 @@ impl Model for Slots {
 /// Places an object in a slot that was taken before, or in the next.
 fn place(rows: &mut Vec<SlotRow>, slot: u32, object: Object)
     requires next { slot ≤ length rows.old.items }
-    requires made { count_made (map state_of_row rows.old.items) < 2 ^ 24 }
+    requires made { count_made (map state_of_row rows.old.items) < version_bound }
     requires room { length rows.old.items < vec_capacity rows.old }
     ensures { map state_of_row rows.new.items ≡ with_object (map state_of_row rows.old.items) slot (body object) }
 {
@@ -143,7 +144,7 @@ impl Slots {
     /// object and does not rest.
     pub fn take(&mut self, object: Object) -> Result<u32, AllocError>
         requires left { count_live self.old.states + length self.old.resting ≢ self.old.count }
-        requires made { count_made self.old.states < 2 ^ 24 }
+        requires made { count_made self.old.states < version_bound }
         ensures free { IfOk result (λ number. (state_at self.old.states number).body ≡ None) }
         ensures next { IfOk result (λ number. number ≤ length self.old.states) }
         ensures within { IfOk result (λ number. number < self.old.count) }

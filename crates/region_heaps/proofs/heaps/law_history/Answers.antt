@@ -2,7 +2,7 @@ use Rattle.std.proofs.Common.{subst}
 use Rattle.c_types.specs.Table.{basic_types}
 use Rattle.heap_model.specs.Legal.{IsLegal}
 use Rattle.heap_model.specs.Order.{IsStamped}
-use Rattle.heap_model.specs.Preference.{preference_of}
+use Rattle.heap_model.specs.Layouts.{layouts_of}
 use Rattle.region_heaps.proofs.Stamped.{IsStamped-from}
 use Rattle.region_heaps.proofs.heaps.law_history.Goals as goal
 
@@ -12,6 +12,6 @@ returns-clause-stamped c =
 
 pub returns-clause-legal : goal.returns-clause-legal
 returns-clause-legal c =
-    subst (IsLegal (preference_of basic_types)) c.heaps.view_is
-    ((c.law_restrictions.ensures (preference_of basic_types) c.heaps.inside.history.entries).1
+    subst (IsLegal (layouts_of basic_types)) c.heaps.view_is
+    ((c.law_restrictions.ensures (layouts_of basic_types) c.heaps.inside.history.entries).1
     (c.heaps.invariant.keeps.in_regions, λ r is. (c.heaps.invariant.keeps.each r is.0 is.1).legal))

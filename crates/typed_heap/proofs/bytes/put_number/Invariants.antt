@@ -1,5 +1,5 @@
 use Rattle.std.proofs.Common.{◌≡◌, ◌+◌, ◌-◌}
-use Rattle.heap_model.specs.Cells as model
+use Rattle.slot_headers.specs.Cells as model
 use Rattle.typed_heap.specs.View.{cells}
 use Rattle.typed_heap.proofs.bytes.put_number.Given as goal
 

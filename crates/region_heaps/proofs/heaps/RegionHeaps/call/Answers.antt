@@ -40,17 +40,15 @@ pub count-requires-clause-room : goal.count-requires-clause-room
 count-requires-clause-room c =
     let same : count_of c.next.new.self c.args.worker ≡ count_of c.self.inside.numbers c.args.worker = c.next.ensures.counts c.args.worker in
     let own = c.self.invariant.keeps.counts_are c.args.worker in
-    let stamp = c.in_ok-stamp.ensures.stamp in
-    let small = c.in_ok-stamp.ensures.small in
     let entries = ap length c.room.ensures.entries in
-    omega (arith, same, own, own-le c.self.inside.history.entries c.args.worker, stamp, small, entries)
+    omega (arith, same, own, own-le c.self.inside.history.entries c.args.worker, c.len-stamp.ensures.value, c.len-stamp.ensures.most, entries)
 
 pub invariant_of-self-2 : goal.invariant_of-self-2
 invariant_of-self-2 c =
     let region = c.unwrap-region.result in
     let home : region_for c.args.call.now ≡ Some region = sym c.region_for.ensures ∙ c.unwrap-region.ensures in
     let entry : Entry =
-    record { worker = c.args.worker; number = c.in_ok-number.number; stamp = c.in_ok-stamp.stamp; region = region; call = c.args.call.now; reply = c.in_ok-reply.reply } in
+    record { worker = c.args.worker; number = c.in_ok-number.number; stamp = c.len-stamp.result + 1; region = region; call = c.args.call.now; reply = c.in_ok-reply.reply } in
     let heaps = c.self.inside.heaps.items in
     let history = c.self.inside.history.entries in
     let counts = count_of c.self.inside.numbers in
@@ -68,9 +66,9 @@ invariant_of-self-2 c =
       keeps =
           subst S (sym written)
           (subst R (sym pushed)
-          (Keeps-push basic_types heaps c.step.new.heaps history entry home c.requires.fits steps counts counts'
+          (Keeps-push basic_types heaps c.step.new.heaps history entry home c.requires.fits c.requires.types steps counts counts'
           (c.count.ensures.own ∙ ap (λ n. n + 1) (counted c.args.worker))
           (λ w apart. c.count.ensures.others w apart ∙ counted w)
           c.self.invariant.keeps (c.step.auto.heaps ∙ ap length c.deref_mut.ensures.value) c.in_ok-number.ensures.number
-          (c.in_ok-stamp.ensures.stamp ∙ ap (λ es. length es + 1) c.room.ensures.entries)));
+          (ap (λ n. n + 1) (c.len-stamp.ensures.value ∙ ap length c.room.ensures.entries))));
     }

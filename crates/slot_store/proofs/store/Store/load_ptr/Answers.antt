@@ -1,5 +1,6 @@
 use Rattle.std.proofs.Common.{◌≡◌, ◌*◌, ◌/◌, ◌<◌, ◌^◌, ◌∙◌, ap, sym, arith}
-use Rattle.slot_store.specs.Cells.{cells_at, value_cells}
+use Rattle.slot_headers.specs.Cells.{cells_at}
+use Rattle.slot_store.specs.Cells.{value_cells}
 use Rattle.slot_store.specs.Slots.{cells_of}
 use Rattle.slot_store.proofs.Values.{pointer_given, pointer_refused}
 use Rattle.slot_store.proofs.store.Store.load_ptr.Goals as goal

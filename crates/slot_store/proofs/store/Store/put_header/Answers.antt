@@ -1,6 +1,7 @@
 use Rattle.std.proofs.Common.{◌∙◌, ap, sym, subst, arith}
 use Rattle.std.specs.Prelude.{◌<◌}
-use Rattle.slot_store.specs.Cells.{put, value_cells}
+use Rattle.slot_headers.specs.Cells.{put}
+use Rattle.slot_store.specs.Cells.{value_cells}
 use Rattle.slot_store.specs.Slots.{Contents, cells_of, with_cells, slot_size}
 use Rattle.slot_store.proofs.Values.{length-value_cells, put_two}
 use Rattle.slot_store.proofs.Stored.{size_facts, with_cells_twice, cells_of_written}

@@ -5,7 +5,7 @@ use Rattle.heap_model.specs.Legal.{AllocAnswers}
 use Rattle.heap_model.specs.Answers.{next}
 use Rattle.lowfat_regions.specs.Regions.{slot_of, slot_address, slots}
 use Rattle.slot_headers.specs.Words.{address_of, version_of}
-use Rattle.heap_model.specs.Cells.{zeros}
+use Rattle.slot_headers.specs.Cells.{zeros}
 use Rattle.typed_heap.specs.Naming.{nth_slot}
 use Rattle.heap_model.specs.State.{State, StandsFor, live_objects, all_versions}
 use Rattle.heap_model.specs.declared.calls.Call.TheVariants.{Alloc}

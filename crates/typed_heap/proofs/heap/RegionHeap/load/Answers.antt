@@ -1,5 +1,6 @@
 use Rattle.std.proofs.Common.{◌∙◌, length, false, sym, ap, subst, ℕ, ◌<◌, ◌^◌, ◌*◌, arith}
-use Rattle.heap_model.specs.Cells.{width, cells_at, number_in, Loads}
+use Rattle.slot_headers.specs.Cells.{cells_at, number_in}
+use Rattle.heap_model.specs.Cells.{width, Loads}
 use Rattle.heap_model.specs.declared.calls.Reply.TheVariants.{Value as Moved}
 use Rattle.typed_heap.specs.SlotStates.{state_at}
 use Rattle.typed_heap.proofs.Accessing.{within, answered, load-answer, gives-sign_extension, width-bound}

@@ -5,7 +5,7 @@ use Rattle.c_types.specs.Table.{HasSize}
 use Rattle.heap_model.specs.Answers.{Words, answer_by, next}
 use Rattle.heap_model.specs.Forms.{fits_call, is_number, may_store}
 use Rattle.heap_model.specs.Legal.{Answers}
-use Rattle.heap_model.specs.Preference.{preference_of}
+use Rattle.heap_model.specs.Layouts.{layouts_of}
 use Rattle.heap_model.specs.State.{StandsFor, live_by, dead_by}
 use Rattle.heap_model.specs.declared.calls.Call.{Call}
 use Rattle.heap_model.specs.declared.calls.Call.TheVariants.{Check, Store}
@@ -19,7 +19,7 @@ use Rattle.typed_heap.proofs.heap.RegionHeap.step.Goals.{After-store}
 pub returns-in-Alloc-clause-answers : goal.returns-in-Alloc-clause-answers
 unfolding Answers
 returns-in-Alloc-clause-answers c =
-    subst (λ (call : Call). IfOk c.alloc.result (λ reply. (h : Words) → StandsFor c.args.self.now h → Answers (preference_of c.args.types.now) h c.args.self.now.region call reply)) (sym c.in-Alloc.is) c.alloc.ensures.answers
+    subst (λ (call : Call). IfOk c.alloc.result (λ reply. (h : Words) → StandsFor c.args.self.now h → Answers (layouts_of c.args.types.now) h c.args.self.now.region call reply)) (sym c.in-Alloc.is) c.alloc.ensures.answers
 
 pub returns-in-Alloc-clause-elements : goal.returns-in-Alloc-clause-elements
 returns-in-Alloc-clause-elements c =
@@ -28,8 +28,8 @@ returns-in-Alloc-clause-elements c =
 
 pub returns-in-Free-clause-answers : goal.returns-in-Free-clause-answers
 returns-in-Free-clause-answers c = λ h stands.
-    subst (λ (call : Call). Answers (preference_of c.args.types.now) h c.args.self.now.region call c.free.result) (sym c.in-Free.is)
-    (free-answers (preference_of c.args.types.now) c.args.self.now h stands c.args.self.now.region c.free.result c.in-Free.p c.in-Free.fixed (c.free.ensures.answer (preference_of c.args.types.now)))
+    subst (λ (call : Call). Answers (layouts_of c.args.types.now) h c.args.self.now.region call c.free.result) (sym c.in-Free.is)
+    (free-answers (layouts_of c.args.types.now) c.args.self.now h stands c.args.self.now.region c.free.result c.in-Free.p c.in-Free.fixed (c.free.ensures.answer (layouts_of c.args.types.now)))
 
 pub returns-in-Free-clause-elements : goal.returns-in-Free-clause-elements
 returns-in-Free-clause-elements c = c.free.ensures.elements c.args.types.now c.requires.elements
@@ -37,10 +37,10 @@ returns-in-Free-clause-elements c = c.free.ensures.elements c.args.types.now c.r
 pub returns-in-Check-clause-answers : goal.returns-in-Check-clause-answers
 returns-in-Check-clause-answers c =
     IfOk-weaker c.check.result
-    (λ (reply : Reply). reply ≡ answer_by (preference_of c.args.types.now) (live_by c.args.self.now) (dead_by c.args.self.now) (Check c.in-Check.p c.in-Check.want))
-    (λ (reply : Reply). (h : Words) → StandsFor c.args.self.now h → Answers (preference_of c.args.types.now) h c.args.self.now.region c.args.call.now reply)
-    (λ reply e h stands. subst (λ (call : Call). Answers (preference_of c.args.types.now) h c.args.self.now.region call reply) (sym c.in-Check.is)
-    (check-answers (preference_of c.args.types.now) c.args.self.now h stands c.args.self.now.region reply c.in-Check.p c.in-Check.want e))
+    (λ (reply : Reply). reply ≡ answer_by (layouts_of c.args.types.now) (live_by c.args.self.now) (dead_by c.args.self.now) (Check c.in-Check.p c.in-Check.want))
+    (λ (reply : Reply). (h : Words) → StandsFor c.args.self.now h → Answers (layouts_of c.args.types.now) h c.args.self.now.region c.args.call.now reply)
+    (λ reply e h stands. subst (λ (call : Call). Answers (layouts_of c.args.types.now) h c.args.self.now.region call reply) (sym c.in-Check.is)
+    (check-answers (layouts_of c.args.types.now) c.args.self.now h stands c.args.self.now.region reply c.in-Check.p c.in-Check.want e))
     c.check.ensures.answer
 
 pub returns-in-Check-clause-next : goal.returns-in-Check-clause-next
@@ -51,8 +51,8 @@ returns-in-Check-clause-next c =
 
 pub returns-in-Load-clause-answers : goal.returns-in-Load-clause-answers
 returns-in-Load-clause-answers c = λ h stands.
-    subst (λ (call : Call). Answers (preference_of c.args.types.now) h c.args.self.now.region call c.load.result) (sym c.in-Load.is)
-    (load-answers (preference_of c.args.types.now) c.args.self.now h stands c.args.self.now.region c.load.result c.in-Load.p c.in-Load.reach c.in-Load.kind c.load.ensures.answer)
+    subst (λ (call : Call). Answers (layouts_of c.args.types.now) h c.args.self.now.region call c.load.result) (sym c.in-Load.is)
+    (load-answers (layouts_of c.args.types.now) c.args.self.now h stands c.args.self.now.region c.load.result c.in-Load.p c.in-Load.reach c.in-Load.kind c.load.ensures.answer)
 
 pub returns-in-Load-clause-next : goal.returns-in-Load-clause-next
 unfolding next
@@ -68,8 +68,8 @@ cells_after_store c =
 
 pub returns-in-Store-clause-answers : goal.returns-in-Store-clause-answers
 returns-in-Store-clause-answers c = λ h stands.
-    subst (λ (call : Call). Answers (preference_of c.args.types.now) h c.args.self.now.region call c.store.result) (cells_after_store (goal.at.returns-in-Store-clause-answers c).After-store)
-    (store-answers (preference_of c.args.types.now) c.args.self.now h stands c.args.self.now.region c.store.result c.in-Store.p c.in-Store.reach c.in-Store.kind c.in-Store.value.bits c.store.ensures.answer)
+    subst (λ (call : Call). Answers (layouts_of c.args.types.now) h c.args.self.now.region call c.store.result) (cells_after_store (goal.at.returns-in-Store-clause-answers c).After-store)
+    (store-answers (layouts_of c.args.types.now) c.args.self.now h stands c.args.self.now.region c.store.result c.in-Store.p c.in-Store.reach c.in-Store.kind c.in-Store.value.bits c.store.ensures.answer)
 
 pub returns-in-Store-clause-next : goal.returns-in-Store-clause-next
 returns-in-Store-clause-next c = λ worker number h stands.

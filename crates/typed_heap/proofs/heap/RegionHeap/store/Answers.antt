@@ -1,6 +1,7 @@
 use Rattle.std.proofs.Common.{◌≡◌, ◌∙◌, ◌<◌, length, set, sym, ap, subst, arith, length-set}
 use Rattle.std.proofs.lemmas.List.Sums.{sum_by-set}
-use Rattle.heap_model.specs.Cells.{width, Stores, Number, bytes, put, without_pointer}
+use Rattle.slot_headers.specs.Cells.{bytes, put, without_pointer}
+use Rattle.heap_model.specs.Cells.{width, Stores, Number}
 use Rattle.heap_model.specs.Answers.{after_access, next}
 use Rattle.heap_model.specs.State.{State, StandsFor, SlotState, fresh_slot}
 use Rattle.typed_heap.specs.SlotStates.{SlotTable, state_at, with_cells_of}

@@ -1,6 +1,6 @@
 use Rattle.std.proofs.Common.{◌<◌, ◌∙◌, ℕ, length, ap, sym, arith}
 use Rattle.std.proofs.lemmas.List.{length-map}
-use Rattle.heap_model.specs.Cells.{Cell, Byte, number_in, cells_at}
+use Rattle.slot_headers.specs.Cells.{Cell, Byte, number_in, cells_at}
 use Rattle.typed_heap.specs.SlotStates.{SlotTable}
 use Rattle.typed_heap.specs.View.{state_of_row, body, cells}
 use Rattle.typed_heap.proofs.Seen.{object-seen, same-object}

@@ -3,7 +3,7 @@ use Rattle.std.proofs.lemmas.List.{length-map, set-get_or}
 use Rattle.std.proofs.lemmas.Option.{none-some}
 use Rattle.std.specs.Option.{option_map}
 use Rattle.std.specs.Vec.{with_items}
-use Rattle.heap_model.specs.Cells.{Cell, Byte, put, bytes, without_pointer}
+use Rattle.slot_headers.specs.Cells.{Cell, Byte, put, bytes, without_pointer}
 use Rattle.heap_model.specs.Heap.{Body}
 use Rattle.typed_heap.specs.declared.slots.SlotRow.{SlotRow}
 use Rattle.free_slots.specs.Slots.{resting_slots}
