@@ -125,13 +125,13 @@ inside-whole (e ∷ es) all =
 
 pub keeps-legal : RestrictionsLaw → (parts : ℕ → List Entry) (done : List Entry) → IsMerge parts done
     → KeepsLegal parts done
-keeps-legal law parts done m preferred legal =
-    let each : (r : ℕ) → IsLegal preferred (of_region r done) =
-    λ r. subst (IsLegal preferred) (sym (m.regions r)) (legal r) in
-    (law preferred done).1
-    (inside-whole done (λ r. ((law preferred (of_region r done)).0 (each r)).0), λ r is. each r)
+keeps-legal law parts done m layouts legal =
+    let each : (r : ℕ) → IsLegal layouts (of_region r done) =
+    λ r. subst (IsLegal layouts) (sym (m.regions r)) (legal r) in
+    (law layouts done).1
+    (inside-whole done (λ r. ((law layouts (of_region r done)).0 (each r)).0), λ r is. each r)
 
 pub extends : ExtensionLaw → (parts : ℕ → List Entry) (done : List Entry) → IsMerge parts done → Extends parts done
-extends law parts done m preferred passes kept =
-    let found = law preferred parts passes kept in
-    subst (IsExtension preferred parts passes) (sym (found.1.only done m)) found.1
+extends law parts done m layouts passes kept =
+    let found = law layouts parts passes kept in
+    subst (IsExtension layouts parts passes) (sym (found.1.only done m)) found.1

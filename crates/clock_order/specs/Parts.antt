@@ -2,7 +2,7 @@
 use Rattle.std.specs.Prelude.{ℕ, ◌≢◌, List}
 use Rattle.std.specs.List.{All, flat_map}
 use Rattle.heap_model.specs.History.{Log}
-use Rattle.heap_model.specs.Preference.{Preference}
+use Rattle.heap_model.specs.Layouts.{Layouts}
 use Rattle.heap_model.specs.Legal.{of_region, IsLegal}
 use Rattle.heap_model.specs.Order.{ArePasses}
 use Rattle.heap_model.specs.Extension.{IsExtension}
@@ -22,10 +22,10 @@ AreApart p q = All (λ e. All (λ f. e.region ≢ f.region) q.entries) p.entries
 
 -- where each region's entries are legal, the history is
 abbrev pub KeepsLegal : (ℕ → List Entry) → List Entry → Type 0
-KeepsLegal parts history = (preferred : Preference) → ((r : ℕ) → IsLegal preferred (parts r)) → IsLegal preferred history
+KeepsLegal parts history = (layouts : Layouts) → ((r : ℕ) → IsLegal layouts (parts r)) → IsLegal layouts history
 
 -- whatever orders of callers go with the regions' entries, the history is the extension of both
 abbrev pub Extends : (ℕ → List Entry) → List Entry → Type 0
 Extends parts history =
-    (preferred : Preference) (passes : ℕ → List Entry) → ArePasses preferred parts passes
-    → IsExtension preferred parts passes history
+    (layouts : Layouts) (passes : ℕ → List Entry) → ArePasses layouts parts passes
+    → IsExtension layouts parts passes history
