@@ -1,5 +1,5 @@
 -- A reader of the formats of `printf`, from the law that each format has parts or breaks.
-use Rattle.std.proofs.Common.{◌≡◌, ℕ, List, ◌⊎◌, inl, inr, sym, refl, ◌∙◌}
+use Rattle.std.proofs.Common.{◌≡◌, ℕ, List, ◌⊎◌, inl, inr, sym, ◌∙◌}
 use Rattle.std.specs.Prelude.{Option, Some, None}
 use Rattle.c_grammar.specs.declared.units.Unit.{Unit}
 use Rattle.c_print.specs.Formats.{HasParts, Breaks}

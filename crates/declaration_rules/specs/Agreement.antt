@@ -12,6 +12,7 @@ use Rattle.static_rules.specs.Predefined.{is_given}
 use Rattle.static_rules.specs.Source.{Source}
 use Rattle.static_rules.specs.States.{symbol_here}
 use Rattle.static_rules.specs.declared.states.State.{State}
+use Rattle.declaration_rules.specs.declared.declarations.Introduced.{Introduced}
 use Rattle.static_rules.specs.States.{with_symbol}
 use Rattle.static_rules.specs.declared.states.DeclaredFunction.{DeclaredFunction}
 use Rattle.static_rules.specs.declared.states.GlobalSoFar.{GlobalSoFar}
@@ -21,11 +22,6 @@ use Rattle.static_rules.specs.declared.states.Symbol.TheVariants as means
 use Rattle.static_rules.specs.declared.states.Symbol.{Symbol}
 use Rattle.static_rules.specs.declared.states.Where.{Where}
 use Rattle.well_typed.specs.declared.signatures.Signature.{Signature}
-
--- a declarator of a declaration: its name, by number, and the line of its first token
-pub record Introduced : Type 0 where
-  pub name : ℕ
-  pub here : ℕ
 
 -- ---- what a name was declared as before, in any scope
 

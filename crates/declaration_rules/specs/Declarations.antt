@@ -18,12 +18,15 @@ use Rattle.static_rules.specs.Source.{Source}
 use Rattle.static_rules.specs.Operands.{in_table}
 use Rattle.static_rules.specs.States.{on_line, with_symbol}
 use Rattle.static_rules.specs.declared.states.State.{State}
-use Rattle.declaration_rules.specs.Parts.{Around, declares_function, made}
-use Rattle.declaration_rules.specs.Readers.{Readers, OfDeclaration, declarator_line}
+use Rattle.declaration_rules.specs.Parts.{declares_function, made}
+use Rattle.declaration_rules.specs.Readers.{Readers, declarator_line}
+use Rattle.declaration_rules.specs.declared.parts.Around.{Around}
+use Rattle.declaration_rules.specs.declared.specifiers.Setting.TheVariants as specs_of
+use Rattle.declaration_rules.specs.declared.declarations.Introduced.{Introduced}
 use Rattle.declaration_rules.specs.Declarators.{is_taken}
 use Rattle.declaration_rules.specs.Storage.{says_typedef, says_extern, is_tag_alone}
 use Rattle.declaration_rules.specs.Initialisers.{passed}
-use Rattle.declaration_rules.specs.Agreement.{Introduced, signature_of, function}
+use Rattle.declaration_rules.specs.Agreement.{signature_of, function}
 use Rattle.declaration_rules.specs.Objects.{Outcome, no_outcome, mismatched, variable, object}
 use Rattle.static_rules.specs.declared.states.Made.TheVariants as m
 use Rattle.static_rules.specs.declared.states.Made.{Made}
@@ -143,7 +146,7 @@ module _ (source : Source) (readers : Readers)
 
     abbrev pub declaration_of : Where → State → Declaration → Answer (List Initial × State)
     declaration_of w s d =
-        readers.specs (OfDeclaration (declares_tag_alone d)) w s d.specs >>= λ base.
+        readers.specs (specs_of.Declaration (declares_tag_alone d)) w s d.specs >>= λ base.
         each (init_declarator w d.specs base.0) base.1 d.declarators >>= λ outcomes.
         closed_declaration d.place.line outcomes
 

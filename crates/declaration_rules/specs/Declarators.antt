@@ -1,5 +1,5 @@
 -- Declarators (C11 6.7.6): all that stands in one is read in the order of the text. The type is made of it behind that.
-use Rattle.std.specs.Prelude.{ℕ, ◌==◌, ◌-◌, ◌^◌, min, ℤ, pos, negsuc, Bool, false, ◌||◌, List, [], ◌∷◌, ◌++◌, length, take, drop, Option}
+use Rattle.std.specs.Prelude.{ℕ, ◌==◌, ◌-◌, ◌^◌, min, ℤ, pos, negsuc, Bool, false, ◌||◌, [], ◌∷◌, ◌++◌, length, take, drop, Option}
 use Rattle.std.specs.Prelude.{Some, None, is_some, Ok, if◌then◌else◌}
 use Rattle.c_grammar.specs.declared.phrases.Expression.{Expression}
 use Rattle.c_grammar.specs.declared.phrases.Declarator.{Declarator, out-Declarator}
@@ -14,9 +14,13 @@ use Rattle.static_rules.specs.Predefined.{is_given}
 use Rattle.static_rules.specs.Source.{Source, name_at}
 use Rattle.static_rules.specs.States.{new_scope, closed, symbol_here, with_symbol}
 use Rattle.static_rules.specs.declared.states.State.{State}
-use Rattle.declaration_rules.specs.Parts.{DeclaredName, Part, Star, Sized, Unsized, Takes, Around}
 use Rattle.declaration_rules.specs.Parts.{around, made, adjusted}
-use Rattle.declaration_rules.specs.Readers.{Readers, OfParameter, declarator_line}
+use Rattle.declaration_rules.specs.Readers.{Readers, declarator_line}
+use Rattle.declaration_rules.specs.declared.parts.Around.{Around}
+use Rattle.declaration_rules.specs.declared.parts.DeclaredName.{DeclaredName}
+use Rattle.declaration_rules.specs.declared.parts.Part.{Part}
+use Rattle.declaration_rules.specs.declared.parts.Part.TheVariants as part
+use Rattle.declaration_rules.specs.declared.specifiers.Setting.TheVariants as specs_of
 use Rattle.static_rules.specs.declared.states.Made.{Made}
 use Rattle.static_rules.specs.declared.states.Symbol.TheVariants as means
 use Rattle.static_rules.specs.declared.states.Where.{Where}
@@ -55,7 +59,7 @@ module _ (source : Source) where
   module _ (constant : ℕ → Where → State → Expression → Answer (ℤ × State)) (inner : Readers) where
     abbrev pub parameter_of : Where → State → ℕ → Specs → Declarator → Answer State
     parameter_of w s line specs declarator =
-        inner.specs OfParameter w s specs >>= λ base. inner.declarator w base.1 declarator >>= λ a.
+        inner.specs specs_of.Parameter w s specs >>= λ base. inner.declarator w base.1 declarator >>= λ a.
         parameter_made w (declarator_line line declarator) base.0 a
 
     unfoldable pub parameter : Where → State → Parameter → Answer State
@@ -68,7 +72,7 @@ module _ (source : Source) where
 
     abbrev pub with_list : ℕ → Around × State → State → Around × State
     with_list here a s = (
-      around (Takes here (record {
+      around (part.Function here (record {
         variables = drop (length a.1.variables) s.variables;
         names = drop (length a.1.symbols) s.symbols;
         tags = drop (length a.1.tags) s.tags;
@@ -79,12 +83,12 @@ module _ (source : Source) where
     -- ---- one level of a declarator
 
     abbrev pub with_part : Part → Around × State → Around × State
-    with_part part a = (around part a.0, a.1)
+    with_part one a = (around one a.0, a.1)
 
     abbrev pub array_part : ℕ → Where → Around × State → Expression → Answer (Around × State)
     array_part here w a size =
         constant here w a.1 size >>= λ n. count_of here n.0 >>= λ count.
-        Ok (with_part (Sized here count) (a.0, n.1))
+        Ok (with_part (part.Array here count) (a.0, n.1))
 
     abbrev pub declarator_at : Where → State → DeclaratorLayer → Answer (Around × State)
     -- NAME
@@ -94,12 +98,12 @@ module _ (source : Source) where
     declarator_at w s Declarator-F.Unnamed = Ok (record { name = None; parts = [] }, s)
     -- `* declarator`
     declarator_at w s (Declarator-F.Pointer place qualifiers within) =
-        inner.declarator w s within >>= λ a. Ok (with_part (Star place.line) a)
+        inner.declarator w s within >>= λ a. Ok (with_part (part.Pointer place.line) a)
     -- `( declarator )`
     declarator_at w s (Declarator-F.Declarator::Parentheses place within) = inner.declarator w s within
     -- `declarator [ ]`
     declarator_at w s (Declarator-F.Array place within None) =
-        inner.declarator w s within >>= λ a. Ok (with_part (Unsized place.line) a)
+        inner.declarator w s within >>= λ a. Ok (with_part (part.OpenArray place.line) a)
     -- `declarator [ size ]`
     declarator_at w s (Declarator-F.Array place within (Some size)) =
         inner.declarator w s within >>= λ a. array_part place.line w a size

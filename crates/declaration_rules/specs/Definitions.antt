@@ -1,5 +1,5 @@
 -- Definitions of functions (C11 6.9.1).
-use Rattle.std.specs.Prelude.{ℕ, zero, suc, ◌+◌, ◌==◌, ℤ, Bool, true, false, List, [], ◌∷◌, ◌++◌, length, map, Option}
+use Rattle.std.specs.Prelude.{ℕ, zero, suc, ℤ, true, List, [], ◌∷◌, ◌++◌, length, map, Option}
 use Rattle.std.specs.Prelude.{Some, None, Ok, if◌then◌else◌}
 use Rattle.c_grammar.specs.declared.limits.TheConstants.{MAX_DEPTH}
 use Rattle.c_grammar.specs.declared.phrases.Declarator.{Declarator, out-Declarator}
@@ -23,15 +23,18 @@ use Rattle.static_rules.specs.Layers.{DeclaratorLayer}
 use Rattle.static_rules.specs.Source.{Source, name_at, spelled}
 use Rattle.static_rules.specs.States.{new_scope, closed, on_line}
 use Rattle.static_rules.specs.declared.states.State.{State}
-use Rattle.declaration_rules.specs.Parts.{DeclaredName, ParameterList, Part, Around, own_list}
-use Rattle.declaration_rules.specs.Parts.{declares_function, made}
-use Rattle.declaration_rules.specs.Readers.{Readers, OfDefinition, declarator_line}
+use Rattle.declaration_rules.specs.Parts.{own_list, declares_function, made}
+use Rattle.declaration_rules.specs.Readers.{Readers, declarator_line}
+use Rattle.declaration_rules.specs.declared.parts.Around.{Around}
+use Rattle.declaration_rules.specs.declared.parts.DeclaredName.{DeclaredName}
+use Rattle.declaration_rules.specs.declared.parts.ParameterList.{ParameterList}
+use Rattle.declaration_rules.specs.declared.parts.Part.{Part}
+use Rattle.declaration_rules.specs.declared.specifiers.Setting.TheVariants as specs_of
 use Rattle.declaration_rules.specs.Agreement.{signature_of, function}
 use Rattle.declaration_rules.specs.Declarations.{declaration}
 use Rattle.declaration_rules.specs.Statements.{in_function_of, function_block}
 use Rattle.static_rules.specs.declared.states.DeclaredFunction.{DeclaredFunction}
 use Rattle.static_rules.specs.declared.states.Made.{Made}
-use Rattle.static_rules.specs.declared.states.Symbol.{Symbol}
 use Rattle.static_rules.specs.declared.states.Where.{Where}
 use Rattle.well_typed.specs.declared.signatures.Signature.{Signature}
 
@@ -139,6 +142,6 @@ module _ (source : Source) (readers : Readers)
     -- `specs declarator { .. }`
     unfoldable pub definition : Where → State → Syntax → Answer (Function × State)
     definition w s f =
-        readers.specs OfDefinition (on_line w f.place.line) s f.specs >>= λ base.
+        readers.specs specs_of.Definition (on_line w f.place.line) s f.specs >>= λ base.
         readers.declarator (on_line w f.place.line) base.1 f.declarator >>=
         definition_of (on_line w f.place.line) f (declarator_line f.place.line f.declarator) base.0

@@ -18,8 +18,12 @@ use Rattle.static_rules.specs.declared.judged.Tree.TheVariants as tree
 use Rattle.static_rules.specs.Answers.{Answer, ◌>>=◌, fault, all}
 use Rattle.static_rules.specs.declared.states.State.{State}
 use Rattle.declaration_rules.specs.Readers.{too_deep}
-use Rattle.declaration_rules.specs.Stores.{Step, To_member, To_element, kind_behind, Scalar, Copied, Bytes, Unfit}
-use Rattle.declaration_rules.specs.Stores.{Mismatch, Elided, Found, nothing, unfit, stored, then_found}
+use Rattle.declaration_rules.specs.Stores.{kind_behind, Scalar, Copied, Bytes, Found}
+use Rattle.declaration_rules.specs.Stores.{nothing, unfit, stored, then_found}
+use Rattle.declaration_rules.specs.declared.stores.Step.{Step}
+use Rattle.declaration_rules.specs.declared.stores.Step.TheVariants as step_to
+use Rattle.declaration_rules.specs.declared.stores.Unfit.{Unfit}
+use Rattle.declaration_rules.specs.declared.stores.Unfit.TheVariants as unfits
 use Rattle.static_rules.specs.declared.states.Where.{Where}
 
 -- ---- what fits
@@ -38,7 +42,7 @@ copied wrong path kind judged = if kind == judged.kind then copied_from wrong pa
 
 -- An array takes no other array, also not one of its own type.
 abbrev pub array_from : Unfit → Tree → Unfit
-array_from wrong (tree.Place place) = Mismatch
+array_from wrong (tree.Place place) = unfits.Mismatch
 array_from wrong (tree.Value value) = wrong
 
 abbrev pub not_an_array : Unfit → ℕ → Judged → Found
@@ -46,7 +50,7 @@ not_an_array wrong kind judged = unfit (if kind == judged.kind then array_from w
 
 abbrev pub scalar : List Step → Option Operand → Found
 scalar path (Some operand) = stored path (Scalar operand.value)
-scalar path None = unfit Mismatch
+scalar path None = unfit unfits.Mismatch
 
 -- A string fits with or without its zero byte, which is stored where there is room for it (C11 6.7.9p14).
 unfoldable pub string_bytes : Unfit → List Step → ℕ → List ℕ → Found
@@ -57,12 +61,12 @@ string_bytes wrong path count bytes =
 -- ---- the parts of an object that have initialisers of their own in braces (C11 6.7.9p17)
 
 abbrev pub to_member : Option Member → Option Step
-to_member (Some member) = Some (To_member member.kind member.offset)
+to_member (Some member) = Some (step_to.Member member.kind member.offset)
 to_member None = None
 
 -- the part of this number: an element, a member of a struct, and the first member of a union
 abbrev pub part_by : Types → ℕ → ℕ → Option CType → Option Step
-part_by types kind n (Some (c.Array of count)) = if nat_lt n count then Some (To_element of n) else None
+part_by types kind n (Some (c.Array of count)) = if nat_lt n count then Some (step_to.Element of n) else None
 part_by types kind n (Some (c.Struct tag)) = to_member (slice_get (members types kind) n)
 part_by types kind n (Some (c.Union tag)) = if n == 0 then to_member (slice_get (members types kind) n) else None
 part_by types kind n other = None
@@ -72,7 +76,7 @@ part_of kind types n = part_by types kind n (kind_of types kind)
 
 -- each element, of an array without a size
 abbrev pub element_of : ℕ → Types → ℕ → Option Step
-element_of of types n = Some (To_element of n)
+element_of of types n = Some (step_to.Element of n)
 
 -- what an initialiser in braces may be for (C11 6.7.9p16); one for a scalar has none here
 abbrev pub takes_braces_by : Option CType → Bool
@@ -82,8 +86,8 @@ takes_braces_by (Some (c.Union tag)) = true
 takes_braces_by other = false
 
 abbrev pub kind_of_unfit : Unfit → CheckKind
-kind_of_unfit Mismatch = why.TypeMismatch
-kind_of_unfit Elided = why.LeftOut feature.BraceElision
+kind_of_unfit unfits.Mismatch = why.TypeMismatch
+kind_of_unfit unfits.Elided = why.LeftOut feature.BraceElision
 
 -- what does not fit becomes a fault where its braces end
 abbrev pub in_braces_by : ℕ → Option Unfit → Found × State → Answer (Found × State)
@@ -142,7 +146,7 @@ module _ (expression : Where → State → Expression → Answer (Judged × Stat
     value_by wrong w s path kind value (Some (c.Struct tag)) = aggregate_value wrong w s path kind value
     value_by wrong w s path kind value (Some (c.Union tag)) = aggregate_value wrong w s path kind value
     -- nothing initialises a flexible member
-    value_by wrong w s path kind value (Some (c.Flexible of)) = expression w s value >>= λ r. Ok (unfit Mismatch, r.1)
+    value_by wrong w s path kind value (Some (c.Flexible of)) = expression w s value >>= λ r. Ok (unfit unfits.Mismatch, r.1)
     value_by wrong w s path kind value other = scalar_value w s path kind value
 
     -- ---- in braces
@@ -153,7 +157,7 @@ module _ (expression : Where → State → Expression → Answer (Judged × Stat
         -- one more than there are parts does not fit
         abbrev pub part_read : Where → State → List Step → Initialiser → Option Step → Answer (Found × State)
         part_read w s path one (Some step) = inner w s (path ++ step ∷ []) (kind_behind step) one
-        part_read w s path one None = pass w s one >>= λ after. Ok (unfit Mismatch, after)
+        part_read w s path one None = pass w s one >>= λ after. Ok (unfit unfits.Mismatch, after)
 
         abbrev pub parts : (Types → ℕ → Option Step) → Where → State → List Step → ℕ → List Initialiser →
             Answer (Found × State)
@@ -179,18 +183,18 @@ module _ (expression : Where → State → Expression → Answer (Judged × Stat
     unfoldable pub initial : ℕ → Unfit → Where → State → List Step → ℕ → Initialiser → Answer (Found × State)
     initial zero wrong w s path kind one = too_deep
     initial (suc depth) wrong w s path kind one =
-        initial_by (initial depth Elided) (passed depth) wrong w s path kind one
+        initial_by (initial depth unfits.Elided) (passed depth) wrong w s path kind one
 
     -- ---- an array without a size, which takes it from its initialiser (C11 6.7.9p22)
 
     abbrev pub counted_string : Option (Answer (List ℕ × State)) → Answer ((Option ℕ × Found) × State) →
         Answer ((Option ℕ × Found) × State)
     counted_string (Some string) otherwise =
-        string >>= λ r. Ok ((Some (length r.0 + 1), string_bytes Mismatch [] (length r.0 + 1) r.0), r.1)
+        string >>= λ r. Ok ((Some (length r.0 + 1), string_bytes unfits.Mismatch [] (length r.0 + 1) r.0), r.1)
     counted_string None otherwise = otherwise
 
     abbrev pub not_counted : Where → State → Expression → Answer ((Option ℕ × Found) × State)
-    not_counted w s value = expression w s value >>= λ r. Ok ((None, unfit Mismatch), r.1)
+    not_counted w s value = expression w s value >>= λ r. Ok ((None, unfit unfits.Mismatch), r.1)
 
     abbrev pub counted_value : Where → State → ℕ → Expression → Answer ((Option ℕ × Found) × State)
     counted_value w s of value =
@@ -199,7 +203,7 @@ module _ (expression : Where → State → Expression → Answer (Judged × Stat
     -- braces give as many elements as they have parts
     abbrev pub counted_braces : ℕ → ℕ → Where → State → ℕ → List Initialiser → Answer ((Option ℕ × Found) × State)
     counted_braces depth here w s of list =
-        parts (initial depth Elided) (passed depth) (element_of of) w s [] 0 list >>= in_braces here >>= λ r.
+        parts (initial depth unfits.Elided) (passed depth) (element_of of) w s [] 0 list >>= in_braces here >>= λ r.
         Ok ((Some (length list), r.0), r.1)
 
     abbrev pub counted_at : ℕ → Where → State → ℕ → Initialiser-F Initialiser → Answer ((Option ℕ × Found) × State)

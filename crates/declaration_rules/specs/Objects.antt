@@ -22,14 +22,16 @@ use Rattle.static_rules.specs.Answers.{Answer, ◌>>=◌, fault_if, or_bad_type}
 use Rattle.static_rules.specs.Operands.{in_types, in_table}
 use Rattle.static_rules.specs.Predefined.{is_given}
 use Rattle.static_rules.specs.Source.{Source}
-use Rattle.static_rules.specs.States.{symbol_here, with_symbol, with_types}
+use Rattle.static_rules.specs.States.{symbol_here, with_symbol}
 use Rattle.static_rules.specs.declared.states.State.{State}
 use Rattle.declaration_rules.specs.Parts.{open_element}
 use Rattle.declaration_rules.specs.Readers.{Readers}
+use Rattle.declaration_rules.specs.declared.declarations.Introduced.{Introduced}
+use Rattle.declaration_rules.specs.declared.stores.Unfit.TheVariants as unfits
 use Rattle.declaration_rules.specs.Declarators.{is_taken}
-use Rattle.declaration_rules.specs.Stores.{at, placed, Mismatch, Found}
+use Rattle.declaration_rules.specs.Stores.{at, placed, Found}
 use Rattle.declaration_rules.specs.Initialisers.{initial, counted}
-use Rattle.declaration_rules.specs.Agreement.{Introduced, function_named, global_named, only_global, agreeing}
+use Rattle.declaration_rules.specs.Agreement.{function_named, global_named, only_global, agreeing}
 use Rattle.declaration_rules.specs.Agreement.{same_element, same_object, composite, repeated_global, first_global}
 use Rattle.static_rules.specs.declared.states.GlobalSoFar.{GlobalSoFar}
 use Rattle.static_rules.specs.declared.states.Made.{Made}
@@ -126,7 +128,7 @@ module _ (source : Source) (readers : Readers)
     (literal : Where → State → Expression → Option (Answer (List ℕ × State)))
   where
     abbrev pub found_in : Where → State → ℕ → Initialiser → Answer (Found × State)
-    found_in w s kind one = initial readers.expression valued converted literal MAX_DEPTH Mismatch w s [] kind one
+    found_in w s kind one = initial readers.expression valued converted literal MAX_DEPTH unfits.Mismatch w s [] kind one
 
     abbrev pub counted_in : Where → State → ℕ → Initialiser → Answer ((Option ℕ × Found) × State)
     counted_in w s of one = counted readers.expression valued converted literal MAX_DEPTH w s of one

@@ -1,11 +1,10 @@
 -- What stands in a declarator, and the type that its parts make (C11 6.7.6).
-use Rattle.std.specs.Prelude.{ℕ, nat_lt, Bool, true, false, List, [], ◌∷◌, length, map, Option, Some, None, is_some, Ok}
+use Rattle.std.specs.Prelude.{ℕ, nat_lt, Bool, true, false, List, [], ◌∷◌, ◌++◌, length, map, reverse, Option, Some, None, is_some, Ok}
 use Rattle.std.specs.Prelude.{if◌then◌else◌}
-use Rattle.c_types.specs.declared.kinds.CType.TheVariants as c
 use Rattle.c_types.specs.declared.kinds.TypeError.TheVariants as e
 use Rattle.c_types.specs.Shapes.{is_open}
 use Rattle.c_types.specs.Table.{Types, shape_of}
-use Rattle.c_types.specs.Adding.{added, array_fault, open_fault}
+use Rattle.c_types.specs.Adding.{array_fault, open_fault}
 use Rattle.c_tree.specs.declared.limits.TheConstants.{MAX_PARAMETERS}
 use Rattle.c_tree.specs.declared.program.Variable.{Variable}
 use Rattle.well_typed.specs.Kinds.{element, is_aggregate, has_size}
@@ -16,50 +15,26 @@ use Rattle.static_rules.specs.Operands.{pointer_to, in_table}
 use Rattle.static_rules.specs.declared.states.State.{State}
 use Rattle.static_rules.specs.declared.states.Made.TheVariants as m
 use Rattle.static_rules.specs.declared.states.Made.{Made}
-use Rattle.static_rules.specs.declared.states.Symbol.{Symbol}
-use Rattle.static_rules.specs.declared.states.TagSymbol.{TagSymbol}
-use Rattle.well_typed.specs.declared.signatures.Signature.{Signature}
+use Rattle.declaration_rules.specs.declared.parts.Around.{Around}
+use Rattle.declaration_rules.specs.declared.parts.ParameterList.{ParameterList}
+use Rattle.declaration_rules.specs.declared.parts.Part.{Part}
+use Rattle.declaration_rules.specs.declared.parts.Part.TheVariants as part
 
 -- ---- what stands in a declarator
 
--- the name that a declarator declares, by its number, and its line
-pub record DeclaredName : Type 0 where
-  pub number : ℕ
-  pub line : ℕ
-
--- A list of parameters: the variables that they are, and the names and tags that it declares, which a definition's body knows as
--- well.
-pub record ParameterList : Type 0 where
-  pub variables : List Variable
-  pub names : List (ℕ × Symbol)
-  pub tags : List (ℕ × TagSymbol)
-
--- what stands around a name, each with the line of its first token
-pub data Part : Type 0 where
-  Star : (line : ℕ) → Part
-  Sized : (line count : ℕ) → Part
-  Unsized : (line : ℕ) → Part
-  Takes : (line : ℕ) → ParameterList → Part
-
--- the name, and what stands around it, the outermost first
-pub record Around : Type 0 where
-  pub name : Option DeclaredName
-  pub parts : List Part
-
 abbrev pub around : Part → Around → Around
-around part inner = record { name = inner.name; parts = part ∷ inner.parts }
+around one inner = record { name = inner.name; parts = inner.parts ++ one ∷ [] }
 
 abbrev pub list_of : Part → Option ParameterList
-list_of (Takes line list) = Some list
-list_of (Star line) = None
-list_of (Sized line count) = None
-list_of (Unsized line) = None
+list_of (part.Function line list) = Some list
+list_of (part.Pointer line) = None
+list_of (part.Array line count) = None
+list_of (part.OpenArray line) = None
 
 -- the list of parameters directly behind the name
 abbrev pub own_list : List Part → Option ParameterList
 own_list [] = None
-own_list (part ∷ []) = list_of part
-own_list (part ∷ next ∷ rest) = own_list (next ∷ rest)
+own_list (first ∷ rest) = list_of first
 
 -- the parts declare a function (C11 6.7.6.3), or are none around a function type
 abbrev pub declares_function : List Part → Made → Bool
@@ -67,7 +42,7 @@ declares_function [] (m.Function signature) = true
 declares_function [] (m.Known kind) = false
 declares_function [] (m.Array of count) = false
 declares_function [] (m.Open of) = false
-declares_function (part ∷ rest) base = is_some (own_list (part ∷ rest))
+declares_function (first ∷ rest) base = is_some (list_of first)
 
 -- ---- types that are made
 
@@ -99,21 +74,24 @@ function_of here list s kind =
 -- A part around what the parts outside it make. No pointer leads to a function here, and there are no arrays of
 -- functions and no functions that give functions (C11 6.7.6.2p1, 6.7.6.3p1).
 unfoldable pub made_by : State → Part → Made → Answer (Made × State)
-made_by s (Star here) (m.Function signature) = fault (why.LeftOut feature.FunctionPointer) here
-made_by s (Star here) of = Ok (pointed (in_table s of))
-made_by s (Sized here count) (m.Function signature) = fault why.TypeMismatch here
-made_by s (Sized here count) of = array_of here count (in_table s of)
-made_by s (Unsized here) (m.Function signature) = fault why.TypeMismatch here
-made_by s (Unsized here) of = open_array_of here (in_table s of)
-made_by s (Takes here list) (m.Known kind) = function_of here list s kind
-made_by s (Takes here list) (m.Array of count) = fault why.TypeMismatch here
-made_by s (Takes here list) (m.Open of) = fault why.TypeMismatch here
-made_by s (Takes here list) (m.Function signature) = fault why.TypeMismatch here
+made_by s (part.Pointer here) (m.Function signature) = fault (why.LeftOut feature.FunctionPointer) here
+made_by s (part.Pointer here) of = Ok (pointed (in_table s of))
+made_by s (part.Array here count) (m.Function signature) = fault why.TypeMismatch here
+made_by s (part.Array here count) of = array_of here count (in_table s of)
+made_by s (part.OpenArray here) (m.Function signature) = fault why.TypeMismatch here
+made_by s (part.OpenArray here) of = open_array_of here (in_table s of)
+made_by s (part.Function here list) (m.Known kind) = function_of here list s kind
+made_by s (part.Function here list) (m.Array of count) = fault why.TypeMismatch here
+made_by s (part.Function here list) (m.Open of) = fault why.TypeMismatch here
+made_by s (part.Function here list) (m.Function signature) = fault why.TypeMismatch here
+
+abbrev pub made_from : State → List Part → Made → Answer (Made × State)
+made_from s [] base = Ok (base, s)
+made_from s (outer ∷ inner) base = made_by s outer base >>= λ r. made_from r.1 inner r.0
 
 -- The type of a name is made from the outside to the name. The outermost type is in no table yet where it is an array.
 unfoldable pub made : State → List Part → Made → Answer (Made × State)
-made s [] base = Ok (base, s)
-made s (part ∷ parts) base = made_by s part base >>= λ r. made r.1 parts r.0
+made s parts base = made_from s (reverse parts) base
 
 -- ---- types of parameters (C11 6.7.6.3p7 and p8): an array is a pointer, and functions, structs and unions are left
 -- out

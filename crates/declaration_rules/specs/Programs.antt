@@ -3,7 +3,6 @@ use Rattle.std.specs.Prelude.{ℕ, zero, suc, ◌+◌, ◌*◌, ◌≡◌, List,
 use Rattle.c_print.specs.Formats.{Parts}
 use Rattle.c_print.specs.declared.parts.Part.{Part}
 use Rattle.c_grammar.specs.declared.limits.TheConstants.{MAX_DEPTH}
-use Rattle.c_grammar.specs.declared.phrases.TypePhrase.{TypePhrase}
 use Rattle.c_grammar.specs.declared.units.Unit.{Unit}
 use Rattle.c_tree.specs.declared.program.Program.{Program}
 use Rattle.c_types.specs.Table.{Types}

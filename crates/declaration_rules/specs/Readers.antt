@@ -1,5 +1,5 @@
 -- Expressions, specifiers and declarators lead to one another. Each is read over readers of what is nested in it.
-use Rattle.std.specs.Prelude.{ℕ, Bool, alloc_error}
+use Rattle.std.specs.Prelude.{ℕ, alloc_error}
 use Rattle.c_grammar.specs.declared.phrases.Declarator.{Declarator, out-Declarator}
 use Rattle.c_grammar.specs.declared.phrases.Declarator.TheOpen.{Declarator-F}
 use Rattle.c_grammar.specs.declared.phrases.Expression.{Expression}
@@ -10,20 +10,12 @@ use Rattle.static_rules.specs.declared.faults.CheckKind.TheVariants as why
 use Rattle.static_rules.specs.Answers.{Answer, ◌>>=◌, fault}
 use Rattle.static_rules.specs.Layers.{DeclaratorLayer}
 use Rattle.static_rules.specs.declared.states.State.{State}
-use Rattle.declaration_rules.specs.Parts.{Around, made}
+use Rattle.declaration_rules.specs.Parts.{made}
+use Rattle.declaration_rules.specs.declared.parts.Around.{Around}
+use Rattle.declaration_rules.specs.declared.specifiers.Setting.{Setting}
+use Rattle.declaration_rules.specs.declared.specifiers.Setting.TheVariants as specs_of
 use Rattle.static_rules.specs.declared.states.Made.{Made}
 use Rattle.static_rules.specs.declared.states.Where.{Where}
-
--- What specifiers belong to, on which it depends which storage words may stand among them.
-pub data Setting : Type 0 where
-  -- a declaration, of which they are a tag alone where there is nothing else, as in `struct S;`
-  OfDeclaration : (alone : Bool) → Setting
-  -- the definition of a function
-  OfDefinition : Setting
-  OfMember : Setting
-  OfParameter : Setting
-  -- the name of a type
-  OfTypeName : Setting
 
 pub record Readers : Type 0 where
   pub expression : Where → State → Expression → Answer (Judged × State)
@@ -37,7 +29,7 @@ too_deep = fault (why.Memory alloc_error) 0
 -- The name of a type (C11 6.7.7).
 unfoldable pub type_phrase : Readers → Where → State → TypePhrase → Answer (Made × State)
 type_phrase inner w s phrase =
-    inner.specs OfTypeName w s (out-TypePhrase phrase).specs >>= λ base.
+    inner.specs specs_of.TypeName w s (out-TypePhrase phrase).specs >>= λ base.
     inner.declarator w base.1 (out-TypePhrase phrase).declarator >>= λ a. made a.1 a.0.parts base.0
 
 -- ---- the line of the first token

@@ -30,9 +30,13 @@ use Rattle.static_rules.specs.Operands.{in_table}
 use Rattle.static_rules.specs.States.{symbol_of, tag_of, tag_here, with_tag}
 use Rattle.static_rules.specs.declared.states.State.{State}
 use Rattle.static_rules.specs.States.{with_types}
-use Rattle.declaration_rules.specs.Parts.{DeclaredName, Around, made}
-use Rattle.declaration_rules.specs.Readers.{Readers, Setting, OfDeclaration, OfDefinition, OfMember, OfParameter}
-use Rattle.declaration_rules.specs.Readers.{OfTypeName, declarator_line}
+use Rattle.declaration_rules.specs.Parts.{made}
+use Rattle.declaration_rules.specs.Readers.{Readers, declarator_line}
+use Rattle.declaration_rules.specs.declared.parts.Around.{Around}
+use Rattle.declaration_rules.specs.declared.parts.DeclaredName.{DeclaredName}
+use Rattle.declaration_rules.specs.declared.specifiers.Opened.{Opened}
+use Rattle.declaration_rules.specs.declared.specifiers.Setting.{Setting}
+use Rattle.declaration_rules.specs.declared.specifiers.Setting.TheVariants as specs_of
 use Rattle.declaration_rules.specs.Storage.{has_effect, storage_fault}
 use Rattle.static_rules.specs.declared.states.Made.TheVariants as m
 use Rattle.static_rules.specs.declared.states.Made.{Made}
@@ -103,10 +107,6 @@ is_union aggregate.Struct = false
 is_union aggregate.Union = true
 
 -- the number of a tag, and whether the list of members behind it may complete it
-pub record Opened : Type 0 where
-  pub kind : ℕ
-  pub completes : Bool
-
 abbrev pub opened : Bool → ℕ → Opened
 opened completes kind = record { kind = kind; completes = completes }
 
@@ -143,12 +143,12 @@ module _ (source : Source) where
 
   -- Alone in a declaration it is one of the innermost scope.
   abbrev pub tag_meant : Setting → Where → State → ℕ → Option TagSymbol
-  tag_meant (OfDeclaration true) w s name = tag_here w s name
-  tag_meant (OfDeclaration false) w s name = tag_of s name
-  tag_meant OfDefinition w s name = tag_of s name
-  tag_meant OfMember w s name = tag_of s name
-  tag_meant OfParameter w s name = tag_of s name
-  tag_meant OfTypeName w s name = tag_of s name
+  tag_meant (specs_of.Declaration true) w s name = tag_here w s name
+  tag_meant (specs_of.Declaration false) w s name = tag_of s name
+  tag_meant specs_of.Definition w s name = tag_of s name
+  tag_meant specs_of.Member w s name = tag_of s name
+  tag_meant specs_of.Parameter w s name = tag_of s name
+  tag_meant specs_of.TypeName w s name = tag_of s name
 
   abbrev pub opened_or_new : State → Bool → ℕ → Option TagSymbol → Opened × State
   opened_or_new s union_tag name (Some earlier) = (opened_again s union_tag earlier, s)
@@ -194,7 +194,7 @@ module _ (source : Source) where
 
     abbrev pub fields : Where → ℕ → Specs → List Declarator → List Field × State → Answer (List Field × State)
     fields w line specs declarators found =
-        inner.specs OfMember w found.1 specs >>= λ base.
+        inner.specs specs_of.Member w found.1 specs >>= λ base.
         all (λ before declarator. field w line base.0 before declarator) (found.0, base.1) declarators
 
     -- one declaration of members, behind those that were found

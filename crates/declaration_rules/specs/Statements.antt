@@ -27,15 +27,8 @@ use Rattle.static_rules.specs.Lines.{line_of}
 use Rattle.static_rules.specs.States.{on_line, new_scope, closed}
 use Rattle.static_rules.specs.declared.states.State.{State}
 use Rattle.declaration_rules.specs.Readers.{too_deep}
+use Rattle.declaration_rules.specs.declared.statements.Inside.{Inside}
 use Rattle.static_rules.specs.declared.states.Where.{Where}
-
--- What stands around a statement: the type of the function's result, whether a loop or a `switch` does, and the type of
--- the innermost `switch` where the statement stands directly in its block.
-pub record Inside : Type 0 where
-  pub result : ℕ
-  pub in_loop : Bool
-  pub in_switch : Bool
-  pub directly : Option ℕ
 
 -- the body of a function whose result has this type
 abbrev pub in_function_of : ℕ → Inside

@@ -9,7 +9,8 @@ use Rattle.static_rules.specs.declared.faults.CheckKind.{CheckKind}
 use Rattle.static_rules.specs.declared.faults.CheckKind.TheVariants as why
 use Rattle.static_rules.specs.declared.faults.Feature.TheVariants as feature
 use Rattle.static_rules.specs.Layers.{SpecifierLayer}
-use Rattle.declaration_rules.specs.Readers.{Setting, OfDeclaration, OfDefinition, OfMember, OfParameter, OfTypeName}
+use Rattle.declaration_rules.specs.declared.specifiers.Setting.{Setting}
+use Rattle.declaration_rules.specs.declared.specifiers.Setting.TheVariants as specs_of
 use Rattle.static_rules.specs.declared.states.Where.{Where}
 
 abbrev pub is_typedef : Storage → Bool
@@ -46,13 +47,13 @@ mismatch_if false = None
 -- and a parameter are no types (C11 6.9.1p4, 6.7.2.1p1, 6.7.6.3p2), and the name of a type declares nothing (C11
 -- 6.7.7p1).
 abbrev pub storage_fault : Setting → Where → (behind : Bool) → Storage → Option CheckKind
-storage_fault (OfDeclaration alone) w behind word =
+storage_fault (specs_of.Declaration alone) w behind word =
     if w.in_function && is_static word then Some (why.LeftOut feature.StaticLocal)
     else mismatch_if (behind && has_effect word)
-storage_fault OfDefinition w behind word = mismatch_if (is_typedef word || behind && has_effect word)
-storage_fault OfMember w behind word = mismatch_if (is_typedef word)
-storage_fault OfParameter w behind word = mismatch_if (is_typedef word)
-storage_fault OfTypeName w behind word = Some why.TypeMismatch
+storage_fault specs_of.Definition w behind word = mismatch_if (is_typedef word || behind && has_effect word)
+storage_fault specs_of.Member w behind word = mismatch_if (is_typedef word)
+storage_fault specs_of.Parameter w behind word = mismatch_if (is_typedef word)
+storage_fault specs_of.TypeName w behind word = Some why.TypeMismatch
 
 -- ---- what specifiers say
 

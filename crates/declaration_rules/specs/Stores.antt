@@ -7,24 +7,23 @@ use Rattle.c_tree.specs.declared.values.At.{At}
 use Rattle.c_tree.specs.declared.values.Place.{Place}
 use Rattle.c_tree.specs.declared.values.Place.TheVariants as p
 use Rattle.c_tree.specs.declared.values.Value.{Value}
+use Rattle.declaration_rules.specs.declared.stores.Step.{Step}
+use Rattle.declaration_rules.specs.declared.stores.Step.TheVariants as step_to
+use Rattle.declaration_rules.specs.declared.stores.Unfit.{Unfit}
+use Rattle.declaration_rules.specs.declared.stores.Unfit.TheVariants as unfits
 
 -- ---- where
 
--- to a member of a struct or a union, with its type and offset, or to an element of an array, with its type and number
-pub data Step : Type 0 where
-  To_member : (kind offset : ℕ) → Step
-  To_element : (kind index : ℕ) → Step
-
 abbrev pub kind_behind : Step → ℕ
-kind_behind (To_member kind offset) = kind
-kind_behind (To_element kind index) = kind
+kind_behind (step_to.Member kind offset) = kind
+kind_behind (step_to.Element kind index) = kind
 
 abbrev pub at : ℕ → ℕ → At
 at line kind = record { kind = kind; line = line }
 
 abbrev pub place_behind : ℕ → Place → Step → Place
-place_behind line object (To_member kind offset) = p.Member (at line kind) object offset
-place_behind line object (To_element kind index) = p.Element (at line kind) object index
+place_behind line object (step_to.Member kind offset) = p.Member (at line kind) object offset
+place_behind line object (step_to.Element kind index) = p.Element (at line kind) object index
 
 -- the place to which a path leads from an object
 abbrev pub place_at : ℕ → Place → List Step → Place
@@ -56,17 +55,12 @@ placed line object stores = map (λ (store : Store). stored_at (place_at line ob
 
 -- ---- what does not fit
 
--- Why a part does not fit what it initialises. Of two causes at one node the mismatch is told.
-pub data Unfit : Type 0 where
-  Mismatch : Unfit
-  -- an array, struct or union in braces, whose own braces are left out
-  Elided : Unfit
-
+-- Of two causes at one node the mismatch is told.
 abbrev pub told_of : Unfit → Option Unfit → Unfit
-told_of Mismatch other = Mismatch
-told_of Elided (Some Mismatch) = Mismatch
-told_of Elided (Some Elided) = Elided
-told_of Elided None = Elided
+told_of unfits.Mismatch other = unfits.Mismatch
+told_of unfits.Elided (Some unfits.Mismatch) = unfits.Mismatch
+told_of unfits.Elided (Some unfits.Elided) = unfits.Elided
+told_of unfits.Elided None = unfits.Elided
 
 abbrev pub first_told : Option Unfit → Option Unfit → Option Unfit
 first_told None other = other
