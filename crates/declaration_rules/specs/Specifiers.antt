@@ -115,6 +115,52 @@ abbrev pub opened_again : State → Bool → TagSymbol → Opened
 opened_again s union_tag (tagged.Aggregate is kind) = opened (is_as is union_tag && not (has_size s.types kind)) kind
 opened_again s union_tag tagged.Enumeration = opened false 0
 
+-- a tag without a name is in no scope
+abbrev pub with_new_tag : State → Bool → Option ℕ → ℕ × Types → ℕ × State
+with_new_tag s union_tag (Some name) r = (r.0, with_tag (with_types s r.1) name (tagged.Aggregate union_tag r.0))
+with_new_tag s union_tag None r = (r.0, with_types s r.1)
+
+-- Alone in a declaration it is one of the innermost scope.
+abbrev pub tag_meant : Setting → Where → State → ℕ → Option TagSymbol
+tag_meant (specs_of.Declaration true) w s name = tag_here w s name
+tag_meant (specs_of.Declaration false) w s name = tag_of s name
+tag_meant specs_of.Definition w s name = tag_of s name
+tag_meant specs_of.Member w s name = tag_of s name
+tag_meant specs_of.Parameter w s name = tag_of s name
+tag_meant specs_of.TypeName w s name = tag_of s name
+
+-- ---- members (C11 6.7.2.1)
+
+-- a member is no function (C11 6.7.2.1p3)
+abbrev pub member_kind : ℕ → Made × State → Answer (ℕ × State)
+member_kind here (m.Function signature, s) = fault why.TypeMismatch here
+member_kind here (type, s) = Ok (in_table s type)
+
+-- ---- enumerations (C11 6.7.2.2, 6.7.2.3)
+
+-- whether the tag is new in its scope
+abbrev pub enumeration_opened : State → ℕ → Option TagSymbol → Bool × State
+enumeration_opened s name (Some earlier) = (false, s)
+enumeration_opened s name None = (true, with_tag s name tagged.Enumeration)
+
+abbrev pub open_enumeration : Where → State → Option ℕ → Bool × State
+open_enumeration w s (Some name) = enumeration_opened s name (tag_here w s name)
+open_enumeration w s None = (true, s)
+
+-- `enum NAME` is one that was declared before (C11 6.7.2.3p2).
+abbrev pub enumeration_used : ℕ → State → Option TagSymbol → Answer (ℕ × State)
+enumeration_used here s (Some tagged.Enumeration) = Ok (6, s)
+enumeration_used here s (Some (tagged.Aggregate is kind)) = fault why.Redefined here
+enumeration_used here s None = fault why.Unknown here
+
+-- ---- typedefs
+
+-- a name that is a type where it stands (C11 6.7.8p3)
+abbrev pub typedef_used : ℕ → State → Option Symbol → Answer (Made × State)
+typedef_used here s (Some (means.Typedef type)) = Ok (type, s)
+typedef_used here s (Some other) = fault why.Unknown here
+typedef_used here s None = fault why.Unknown here
+
 module _ (source : Source) where
   -- the name of a tag, which is empty where it has none
   abbrev pub tag_name : Option ℕ → Name
@@ -124,11 +170,6 @@ module _ (source : Source) where
   abbrev pub number_of_name : Option ℕ → Option ℕ
   number_of_name (Some token) = Some (name_at source token)
   number_of_name None = None
-
-  -- a tag without a name is in no scope
-  abbrev pub with_new_tag : State → Bool → Option ℕ → ℕ × Types → ℕ × State
-  with_new_tag s union_tag (Some name) r = (r.0, with_tag (with_types s r.1) name (tagged.Aggregate union_tag r.0))
-  with_new_tag s union_tag None r = (r.0, with_types s r.1)
 
   -- a new type, which has no members yet
   unfoldable pub new_tag : State → Bool → Option ℕ → ℕ × State
@@ -140,15 +181,6 @@ module _ (source : Source) where
       if is_as is union_tag then Ok (kind, s) else fault why.Redefined here
   tag_used here s union_tag name (Some tagged.Enumeration) = fault why.Redefined here
   tag_used here s union_tag name None = Ok (new_tag s union_tag (Some name))
-
-  -- Alone in a declaration it is one of the innermost scope.
-  abbrev pub tag_meant : Setting → Where → State → ℕ → Option TagSymbol
-  tag_meant (specs_of.Declaration true) w s name = tag_here w s name
-  tag_meant (specs_of.Declaration false) w s name = tag_of s name
-  tag_meant specs_of.Definition w s name = tag_of s name
-  tag_meant specs_of.Member w s name = tag_of s name
-  tag_meant specs_of.Parameter w s name = tag_of s name
-  tag_meant specs_of.TypeName w s name = tag_of s name
 
   abbrev pub opened_or_new : State → Bool → ℕ → Option TagSymbol → Opened × State
   opened_or_new s union_tag name (Some earlier) = (opened_again s union_tag earlier, s)
@@ -176,11 +208,6 @@ module _ (source : Source) where
   with_field found (Some name) kind =
       (found ++ record { name = spelled source name.number; kind = kind.0 } ∷ [], kind.1)
   with_field found None kind = (found, kind.1)
-
-  -- a member is no function (C11 6.7.2.1p3)
-  abbrev pub member_kind : ℕ → Made × State → Answer (ℕ × State)
-  member_kind here (m.Function signature, s) = fault why.TypeMismatch here
-  member_kind here (type, s) = Ok (in_table s type)
 
   abbrev pub field_made : ℕ → Made → List Field → Around × State → Answer (List Field × State)
   field_made here base found a =
@@ -221,26 +248,11 @@ module _ (source : Source) where
         enumerator_of w (out-Enumerator one).place.line (name_at source (out-Enumerator one).place.token) next
         (out-Enumerator one).value
 
-    -- whether the tag is new in its scope
-    abbrev pub enumeration_opened : State → ℕ → Option TagSymbol → Bool × State
-    enumeration_opened s name (Some earlier) = (false, s)
-    enumeration_opened s name None = (true, with_tag s name tagged.Enumeration)
-
-    abbrev pub open_enumeration : Where → State → Option ℕ → Bool × State
-    open_enumeration w s (Some name) = enumeration_opened s name (tag_here w s name)
-    open_enumeration w s None = (true, s)
-
     -- An enumeration is `int`.
     abbrev pub enumeration : Where → ℕ → Bool × State → List Enumerator → Answer (ℕ × State)
     enumeration w here tag constants =
         all (λ next one. enumerator w next one) (pos 0, tag.1) constants >>= λ last.
         fault_if (not tag.0) why.Redefined here >>= λ new. Ok (6, last.1)
-
-    -- `enum NAME` is one that was declared before (C11 6.7.2.3p2).
-    abbrev pub enumeration_used : ℕ → State → Option TagSymbol → Answer (ℕ × State)
-    enumeration_used here s (Some tagged.Enumeration) = Ok (6, s)
-    enumeration_used here s (Some (tagged.Aggregate is kind)) = fault why.Redefined here
-    enumeration_used here s None = fault why.Unknown here
 
     -- ---- one specifier behind others
 
@@ -249,12 +261,6 @@ module _ (source : Source) where
 
     abbrev pub with_kind : Specified → ℕ × State → Specified × State
     with_kind before kind = with_type before (m.Known kind.0, kind.1)
-
-    -- a name that is a type where it stands (C11 6.7.8p3)
-    abbrev pub typedef_used : ℕ → State → Option Symbol → Answer (Made × State)
-    typedef_used here s (Some (means.Typedef type)) = Ok (type, s)
-    typedef_used here s (Some other) = fault why.Unknown here
-    typedef_used here s None = fault why.Unknown here
 
     abbrev pub storage_read : ℕ → Specified → State → Storage → Option CheckKind → Answer (Specified × State)
     storage_read here before s word (Some reason) = fault reason here

@@ -1,0 +1,20 @@
+//! What declarators, specifiers, members and enumerations do with the state, a rule at a time: no tree is read and none is
+//! built here.
+#![tactic(auto)]
+
+mod adding;
+mod faults;
+mod kinds;
+mod names;
+mod parts;
+mod sizes;
+mod specifiers;
+mod tags;
+
+pub use adding::{in_table, pointer_to};
+pub use kinds::{adjusted, open_element, sized_parameter};
+pub use names::{close_scope, declared, given_of, is_given, is_taken, new_scope, predefined};
+pub use parts::{copy_of, function_of, member_kind, pointed, typedef_used};
+pub use sizes::count_of;
+pub use specifiers::{has_effect, storage_fault};
+pub use tags::{enumeration_used, new_tag, open_enumeration, open_tag, tag_meant, tag_used};
