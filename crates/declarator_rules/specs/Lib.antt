@@ -1,2 +1,3 @@
-pub mod Gives
 pub mod Faults
+pub mod Flexible
+pub mod Gives

@@ -3,8 +3,10 @@
 #![tactic(auto)]
 
 mod adding;
+mod arrays;
 mod faults;
 mod kinds;
+mod making;
 mod names;
 mod parts;
 mod sizes;
@@ -12,7 +14,9 @@ mod specifiers;
 mod tags;
 
 pub use adding::{in_table, pointer_to};
+pub use arrays::{array_of, open_array_of};
 pub use kinds::{adjusted, open_element, sized_parameter};
+pub use making::{made, made_by};
 pub use names::{close_scope, declared, given_of, is_given, is_taken, new_scope, predefined};
 pub use parts::{copy_of, function_of, member_kind, pointed, typedef_used};
 pub use sizes::count_of;

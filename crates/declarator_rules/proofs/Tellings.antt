@@ -1,0 +1,38 @@
+-- Faults that are told.
+use Rattle.std.proofs.Common.{◌≡◌, refl, ◌∙◌, ap, ℕ, Option, Some, None}
+use Rattle.std.specs.Prelude.{Result, Ok, Err}
+use Rattle.c_types.specs.declared.kinds.TypeError.{TypeError}
+use Rattle.c_types.specs.declared.kinds.TypeError.TheVariants as e
+use Rattle.static_rules.specs.Answers.{Answer, ◌>>=◌, unless_bad}
+use Rattle.static_rules.specs.declared.faults.CheckError.{CheckError}
+use Rattle.static_rules.specs.declared.faults.CheckKind.{CheckKind}
+use Rattle.static_rules.specs.declared.faults.CheckKind.TheVariants as why
+use Rattle.declarator_rules.specs.Faults.{refused}
+use Rattle.declarator_rules.specs.Gives.{Tells, TellsBy}
+
+-- a type that is refused
+pub refused_tells : {A : Type 0} (here : ℕ) (reason : TypeError) (x : A) →
+    Tells (unless_bad here (Some reason) x) (refused here reason)
+refused_tells here (e.Memory error) x = tt
+refused_tells here e.Incomplete x = refl
+refused_tells here e.Empty x = refl
+refused_tells here e.BadFlexible x = refl
+refused_tells here e.TooLarge x = refl
+refused_tells here e.Duplicate x = refl
+
+-- a fault of the first of two steps is the fault of both
+bound-by : {A B : Type 0} (answer : Answer A) (next : A → Answer B) (error : CheckError) (kind : CheckKind) →
+    TellsBy answer error kind → TellsBy (answer >>= next) error kind
+bound-by answer next error (why.Memory m) told = tt
+bound-by answer next error why.Unknown told = ap (λ a. a >>= next) told
+bound-by answer next error why.Redefined told = ap (λ a. a >>= next) told
+bound-by answer next error why.TypeMismatch told = ap (λ a. a >>= next) told
+bound-by answer next error why.NotAPlace told = ap (λ a. a >>= next) told
+bound-by answer next error why.BadCall told = ap (λ a. a >>= next) told
+bound-by answer next error (why.LeftOut feature) told = ap (λ a. a >>= next) told
+bound-by answer next error why.Limit told = ap (λ a. a >>= next) told
+bound-by answer next error (why.BadType reason) told = ap (λ a. a >>= next) told
+
+pub bound_tells : {A B : Type 0} (answer : Answer A) (next : A → Answer B) (error : CheckError) →
+    Tells answer error → Tells (answer >>= next) error
+bound_tells answer next error told = bound-by answer next error error.kind told
