@@ -1,3 +1,4 @@
 pub mod Faults
 pub mod Flexible
 pub mod Gives
+pub mod Words

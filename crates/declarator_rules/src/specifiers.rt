@@ -1,10 +1,16 @@
 //! Storage words, and basic types (C11 6.7.1, 6.7.2).
 
 ghost use Rattle.std.specs.Prelude.{◌≡◌};
+ghost use Rattle.declaration_rules.specs.Specifiers as spec;
 ghost use Rattle.declaration_rules.specs.Storage as storage;
+ghost use Rattle.declarator_rules.specs.Words.{has_word, is_same_word};
 
-use c_grammar::Storage;
+use c_grammar::{BasicWord, Storage};
+use c_types::TypeNo;
 use declaration_rules::Setting;
+use operand_plans::{
+    CHAR, INT, LONG, SHORT, UNSIGNED_CHAR, UNSIGNED_INT, UNSIGNED_LONG, UNSIGNED_SHORT, VOID,
+};
 use static_rules::{CheckKind, Feature, Where};
 
 /// Whether a word says more than that it is read.
@@ -46,5 +52,52 @@ pub fn storage_fault(
         }
         Setting::Member | Setting::Parameter => mismatch_if(matches!(word, Storage::Typedef)),
         Setting::TypeName => Some(CheckKind::TypeMismatch),
+    }
+}
+
+/// Whether a word stands among others.
+fn has(word: BasicWord, mut words: &[BasicWord]) -> bool
+    ensures { result ≡ has_word word words.entry.now }
+{
+    while let [first, rest @ ..] = words {
+        if is_word(word, *first) {
+            return true;
+        }
+        words = rest;
+    }
+    false
+}
+
+fn is_word(word: BasicWord, other: BasicWord) -> bool
+    ensures { result ≡ is_same_word word other }
+{
+    match word {
+        BasicWord::Void => matches!(other, BasicWord::Void),
+        BasicWord::Char => matches!(other, BasicWord::Char),
+        BasicWord::Short => matches!(other, BasicWord::Short),
+        BasicWord::Long => matches!(other, BasicWord::Long),
+        BasicWord::Unsigned => matches!(other, BasicWord::Unsigned),
+        BasicWord::Int | BasicWord::Signed => false,
+    }
+}
+
+/// The type that words spell which the grammar lets stand together (C11 6.7.2p2): the number of one of the nine types
+/// that each table has.
+pub fn basic_type(words: &[BasicWord]) -> TypeNo
+    ensures { result ≡ spec.basic_type words.now }
+{
+    let unsigned = has(BasicWord::Unsigned, words);
+    if has(BasicWord::Void, words) {
+        VOID
+    } else if has(BasicWord::Char, words) {
+        if unsigned { UNSIGNED_CHAR } else { CHAR }
+    } else if has(BasicWord::Short, words) {
+        if unsigned { UNSIGNED_SHORT } else { SHORT }
+    } else if has(BasicWord::Long, words) {
+        if unsigned { UNSIGNED_LONG } else { LONG }
+    } else if unsigned {
+        UNSIGNED_INT
+    } else {
+        INT
     }
 }
