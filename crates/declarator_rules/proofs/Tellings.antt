@@ -1,6 +1,5 @@
 -- Faults that are told.
-use Rattle.std.proofs.Common.{◌≡◌, refl, ◌∙◌, ap, ℕ, Option, Some, None}
-use Rattle.std.specs.Prelude.{Result, Ok, Err}
+use Rattle.std.proofs.Common.{refl, ap, ℕ, Some}
 use Rattle.c_types.specs.declared.kinds.TypeError.{TypeError}
 use Rattle.c_types.specs.declared.kinds.TypeError.TheVariants as e
 use Rattle.static_rules.specs.Answers.{Answer, ◌>>=◌, unless_bad}

@@ -1,6 +1,6 @@
 //! Members (C11 6.7.2.1), and values of enumerations (6.7.2.2).
 
-ghost use Rattle.std.specs.Prelude.{◌≡◌};
+ghost use Rattle.std.specs.Prelude.{◌≡◌, ◌+ℤ◌, pos};
 ghost use Rattle.c_types.specs.Adding as adding;
 ghost use Rattle.well_typed.specs.Kinds as kinds;
 
@@ -25,4 +25,11 @@ pub fn enumerator_value(value: i128) -> i32
     ensures { result ≡ kinds.wrapped 6 value }
 {
     wrapped(INT, value) as i32
+}
+
+/// The value of an enumeration constant behind another.
+pub fn next_value(value: i32) -> i32
+    ensures { result ≡ kinds.wrapped 6 (value +ℤ pos 1) }
+{
+    enumerator_value(i128::from(value) + 1)
 }

@@ -11,7 +11,7 @@ use declaration_rules::Setting;
 use operand_plans::{
     CHAR, INT, LONG, SHORT, UNSIGNED_CHAR, UNSIGNED_INT, UNSIGNED_LONG, UNSIGNED_SHORT, VOID,
 };
-use static_rules::{CheckKind, Feature, Where};
+use static_rules::{CheckKind, Feature, Made, Where};
 
 /// Whether a word says more than that it is read.
 pub fn has_effect(word: Storage) -> bool
@@ -99,5 +99,15 @@ pub fn basic_type(words: &[BasicWord]) -> TypeNo
         UNSIGNED_INT
     } else {
         INT
+    }
+}
+
+/// The type that specifiers hold: the one that is none of basic words, or what those spell.
+pub fn type_or(words: &[BasicWord], made: Option<Made>) -> Made
+    ensures { result ≡ spec.type_or words.now made }
+{
+    match made {
+        Some(made) => made,
+        None => Made::Known(basic_type(words)),
     }
 }

@@ -1,4 +1,4 @@
-use Rattle.std.proofs.Common.{◌≡◌, ◌∙◌, sym, ap}
+use Rattle.std.proofs.Common.{◌∙◌, sym, ap}
 use Rattle.c_types.specs.Table.{shape_of, members}
 use Rattle.declarator_rules.specs.Flexible.{flexible_by}
 use Rattle.declarator_rules.proofs.Open.{is_flexible-by}
