@@ -3,7 +3,6 @@
 use Rattle.std.specs.Prelude.{◌≡◌, Ok, Err, Result, MatchResult, IsFalse}
 use Rattle.static_rules.specs.Answers.{Answer}
 use Rattle.static_rules.specs.declared.faults.CheckError.{CheckError}
-use Rattle.static_rules.specs.declared.states.State.{State}
 use Rattle.expression_steps.specs.Faults.{is_memory}
 
 -- a fault that the rules answer, or want of memory
@@ -15,5 +14,5 @@ abbrev pub GivesValue : {A : Type 0} → Answer A → Result A CheckError → Ty
 GivesValue answer result = MatchResult result (λ x. answer ≡ Ok x) (λ e. Tells answer e)
 
 -- what they answer with the state behind it
-abbrev pub Gives : {A : Type 0} → Answer (A × State) → Result A CheckError → State → Type 0
+abbrev pub Gives : {A S : Type 0} → Answer (A × S) → Result A CheckError → S → Type 0
 Gives answer result new = MatchResult result (λ x. answer ≡ Ok (x, new)) (λ e. Tells answer e)

@@ -26,7 +26,8 @@ fn named_variable(
     here: u32,
     number: u32,
 ) -> Result<Judged, CheckError>
-    ensures { Gives (spec.variable_by line here number state.old (slice_get state.old.variables number)) result state.new }
+    ensures { Gives (spec.variable_by line here number state.old (slice_get state.old.variables number))
+        result state.new }
 {
     let Some(found) = variable_at(state.variables.as_slice(), number as usize) else {
         return Err(fault(CheckKind::Unknown, here));
@@ -39,7 +40,8 @@ fn named_variable(
 
 /// An object of the whole text, by its number.
 fn named_global(state: &mut State, line: u32, here: u32, number: u32) -> Result<Judged, CheckError>
-    ensures { Gives (spec.global_by line here number state.old (declared_at state.old.globals number)) result state.new }
+    ensures { Gives (spec.global_by line here number state.old (declared_at state.old.globals number))
+        result state.new }
 {
     let kind = match state.globals.get(number as usize) {
         Some(found) => found.kind,
