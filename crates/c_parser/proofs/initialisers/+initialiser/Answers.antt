@@ -28,7 +28,7 @@ initialiser-returns-else-depth-eq0 t c =
       tokens = c.braces-found.ensures.tokens;
       texts = c.braces-found.ensures.texts;
     } in
-    same_reads (λ text ts. step.initialiser ts (readers text ts) c.args.depth) c.args.reader.now c.braces-found.new.reader c.braces-found.result c.refused_at.result c.refused_at.ensures read
+    same_reads (λ text ts. step.initialiser ts (readers text ts) c.args.depth) c.args.reader.now c.braces-found.new.reader c.braces-found.result c.refused_at.result c.refused_at.ensures.same read
 
 pub initialiser-returns-else-sees_mark : goal.initialiser-returns-else-sees_mark
 initialiser-returns-else-sees_mark t c =

@@ -12,6 +12,6 @@ returns g c =
     let read = declarator-at c.args.self.now.depth c.args.how c.args.reader.now found c.declarator_step-found.new.reader c.declarator_step-found.ensures.reads in
     record {
       reads = same_reads (λ text ts. (readers text ts c.args.self.now.depth).declarator c.args.how) c.args.reader.now c.declarator_step-found.new.reader
-          (spelled_found texts found) (spelled_found texts c.refused_at.result) (same_spelled texts found c.refused_at.result c.refused_at.ensures) read;
-      spelled = same_found (HasSpelling texts) found c.refused_at.result c.refused_at.ensures c.declarator_step-found.ensures.spelled;
+          (spelled_found texts found) (spelled_found texts c.refused_at.result) (same_spelled texts found c.refused_at.result c.refused_at.ensures.same) read;
+      spelled = same_found (HasSpelling texts) found c.refused_at.result c.refused_at.ensures.same c.declarator_step-found.ensures.spelled;
     }

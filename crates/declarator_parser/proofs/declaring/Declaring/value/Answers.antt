@@ -9,7 +9,7 @@ use Rattle.declarator_parser.proofs.declaring.Declaring.value.Goals as goal
 pub returns-clause-low : goal.returns-clause-low
 returns-clause-low g c =
     let h = c.requires.value.reads _ _ _ _ _ c.expression-found.ensures in
-    same_found (λ (f : FoundExpression). f.1 ≤ c.args.self.now.depth) c.expression-found.result c.refused_at.result c.refused_at.ensures
+    same_found (λ (f : FoundExpression). f.1 ≤ c.args.self.now.depth) c.expression-found.result c.refused_at.result c.refused_at.ensures.same
     (expression-low c.args.reader.now.text c.args.reader.now.tokens c.args.self.now.depth
     (c.law_readers.ensures.phrases c.args.reader.now.text c.args.reader.now.tokens c.args.self.now.depth)
     (tightness of.Conditional) c.args.reader.now.state c.expression-found.new.arg3.state c.expression-found.result h.answer)
