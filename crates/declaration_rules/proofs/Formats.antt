@@ -6,7 +6,8 @@ use Rattle.c_print.specs.Formats.{HasParts, Breaks}
 use Rattle.c_print.specs.declared.parts.Part.{Part}
 use Rattle.c_tree.specs.declared.program.Program.{Program}
 use Rattle.static_rules.specs.Answers.{Answer}
-use Rattle.declaration_rules.specs.Programs.{IsReading, ReadsFormats, HasAnswer}
+use Rattle.static_rules.specs.Formats.{IsReading, ReadsFormats}
+use Rattle.declaration_rules.specs.Programs.{HasAnswer}
 
 parts_by : {format : List ℕ} → HasParts format ⊎ Breaks format → Option (List Part)
 parts_by (inl (parts, is)) = Some parts

@@ -1,6 +1,5 @@
 -- The knot of the rules, and what a text is: a program, or a first fault.
 use Rattle.std.specs.Prelude.{ℕ, zero, suc, ◌+◌, ◌*◌, ◌≡◌, List, Option, Some, None, Ok}
-use Rattle.c_print.specs.Formats.{Parts}
 use Rattle.c_print.specs.declared.parts.Part.{Part}
 use Rattle.c_grammar.specs.declared.limits.TheConstants.{MAX_DEPTH}
 use Rattle.c_grammar.specs.declared.units.Unit.{Unit}
@@ -9,6 +8,7 @@ use Rattle.c_types.specs.Table.{Types}
 use Rattle.token_texts.specs.Texts.{Texts}
 use Rattle.static_rules.specs.Answers.{Answer}
 use Rattle.static_rules.specs.Expressions.{judged_by, called}
+use Rattle.static_rules.specs.Formats.{ReadsFormats}
 use Rattle.static_rules.specs.Operands.{valued, converted}
 use Rattle.static_rules.specs.Source.{Source}
 use Rattle.static_rules.specs.Uses.{constant, condition, literal}
@@ -38,16 +38,6 @@ all_levels = 2 * MAX_DEPTH + 2
 
 abbrev pub all_readers : Source → Readers
 all_readers source = readers source all_levels
-
--- ---- formats
-
--- What `Source.format` says: the parts of each format of `printf`, and nothing for what is none.
-abbrev pub IsReading : List ℕ → Option (List Part) → Type 0
-IsReading bytes (Some parts) = Parts bytes parts
-IsReading bytes None = (parts : List Part) → Parts bytes parts → ⊥
-
-abbrev pub ReadsFormats : (List ℕ → Option (List Part)) → Type 0
-ReadsFormats format = (bytes : List ℕ) → IsReading bytes (format bytes)
 
 abbrev pub source_of : Texts → (List ℕ → Option (List Part)) → Source
 source_of texts format = record { texts = texts; format = format }

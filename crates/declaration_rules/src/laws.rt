@@ -5,7 +5,8 @@ ghost use Rattle.c_grammar.specs.declared.units.Unit.{Unit as Whole};
 ghost use Rattle.c_print.specs.declared.parts.Part.{Part as Piece};
 ghost use Rattle.c_tree.specs.declared.program.Program.{Program as Tree};
 ghost use Rattle.static_rules.specs.Answers.{Answer};
-ghost use Rattle.declaration_rules.specs.Programs.{HasAnswer, ReadsFormats};
+ghost use Rattle.static_rules.specs.Formats.{ReadsFormats};
+ghost use Rattle.declaration_rules.specs.Programs.{HasAnswer};
 
 use c_print::law_formats;
 

@@ -13,6 +13,7 @@ use Rattle.c_tree.specs.declared.operators.Written.TheVariants as written
 use Rattle.c_tree.specs.declared.values.Value.TheVariants as v
 use Rattle.static_rules.specs.declared.faults.CheckKind.TheVariants as why
 use Rattle.static_rules.specs.declared.faults.Feature.TheVariants as feature
+use Rattle.static_rules.specs.declared.judged.Arguments.{Arguments}
 use Rattle.static_rules.specs.declared.judged.Judged.{Judged}
 use Rattle.static_rules.specs.declared.judged.Known.{Known}
 use Rattle.static_rules.specs.declared.judged.Known.TheVariants as known
@@ -23,7 +24,7 @@ use Rattle.static_rules.specs.declared.plans.Seen.{Seen}
 use Rattle.well_typed.specs.Kinds.{promoted, usual, wrapped, target, sized_target, has_size, is_scalar, is_void_pointer, is_aggregate}
 use Rattle.well_typed.specs.Surroundings.{at}
 use Rattle.static_rules.specs.Answers.{Answer, fault}
-use Rattle.static_rules.specs.Calls.{Arguments, answered}
+use Rattle.static_rules.specs.Calls.{answered}
 use Rattle.static_rules.specs.Casts.{cast, planned_cast}
 use Rattle.static_rules.specs.Changes.{assigned, stepped, stepping_of}
 use Rattle.static_rules.specs.Constants.{known_binary, known_comparison, known_logical, known_conditional, known_unary}

@@ -8,6 +8,7 @@ use Rattle.c_tree.specs.declared.values.At.{At}
 use Rattle.c_tree.specs.declared.values.Value.{Value}
 use Rattle.c_tree.specs.declared.values.Value.TheVariants as v
 use Rattle.static_rules.specs.declared.faults.CheckKind.TheVariants as why
+use Rattle.static_rules.specs.declared.judged.Arguments.{Arguments}
 use Rattle.static_rules.specs.declared.judged.Operand.{Operand}
 use Rattle.static_rules.specs.declared.symbols.BuiltIn.{BuiltIn}
 use Rattle.static_rules.specs.declared.symbols.BuiltIn.TheVariants as given
@@ -28,13 +29,6 @@ pub data Taken : Type 0 where
 abbrev pub kind_taken : State → Taken → ℕ × State
 kind_taken s (Kind kind) = (kind, s)
 kind_taken s (Pointer_to to) = pointer_to s to
-
--- The arguments that were read: their values as far as they fit, whether one of them does not, and whether there are as many as
--- parameters.
-pub record Arguments : Type 0 where
-  pub values : List Value
-  pub misfit : Bool
-  pub as_many : Bool
 
 abbrev pub no_more : Bool → Arguments
 no_more as_many = record { values = []; misfit = false; as_many = as_many }

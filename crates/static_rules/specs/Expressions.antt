@@ -23,6 +23,7 @@ use Rattle.c_tree.specs.declared.values.Value.TheVariants as v
 use Rattle.scoped_meanings.specs.Meanings.{declared_at}
 use Rattle.static_rules.specs.declared.faults.CheckKind.TheVariants as why
 use Rattle.static_rules.specs.declared.faults.Feature.TheVariants as feature
+use Rattle.static_rules.specs.declared.judged.Arguments.{Arguments}
 use Rattle.static_rules.specs.declared.judged.Judged.{Judged}
 use Rattle.static_rules.specs.declared.judged.Known.TheVariants as known
 use Rattle.static_rules.specs.declared.judged.Operand.{Operand}
@@ -30,7 +31,7 @@ use Rattle.static_rules.specs.declared.symbols.BuiltIn.{BuiltIn}
 use Rattle.static_rules.specs.declared.symbols.BuiltIn.TheVariants as given
 use Rattle.well_typed.specs.Surroundings.{at}
 use Rattle.static_rules.specs.Answers.{Answer, ◌>>=◌, fault, or_fault, or_mismatch, each}
-use Rattle.static_rules.specs.Calls.{Taken, Kind, Arguments, kind_taken, no_more, before, answered, taken_by, given_node, result_type, promoted_argument, printed, fetch_added}
+use Rattle.static_rules.specs.Calls.{Taken, Kind, kind_taken, no_more, before, answered, taken_by, given_node, result_type, promoted_argument, printed, fetch_added}
 use Rattle.static_rules.specs.Casts.{cast}
 use Rattle.static_rules.specs.Changes.{assigned, updated, stepped}
 use Rattle.static_rules.specs.Layers.{ExpressionLayer}
@@ -67,6 +68,11 @@ all_values (x ∷ xs) = x.value ∷ all_values xs
 -- `first, .., last` (C11 6.5.17)
 abbrev pub comma : ℕ → List Operand → Operand
 comma line xs = unknown (v.Comma (at line (last_type 1 xs)) (all_values xs)) (last_type 1 xs)
+
+-- the arguments of `printf`
+abbrev pub promoted_all : ℕ → List Operand → List Operand
+promoted_all line [] = []
+promoted_all line (x ∷ xs) = promoted_argument line x ∷ promoted_all line xs
 
 module _ (source : Source) where
   -- the bytes of an expression that is string literals alone
@@ -196,10 +202,6 @@ module _ (source : Source) where
       abbrev pub number_by : Option DeclaredFunction → Option ℕ
       number_by (Some f) = f.number
       number_by None = None
-
-      abbrev pub promoted_all : ℕ → List Operand → List Operand
-      promoted_all line [] = []
-      promoted_all line (x ∷ xs) = promoted_argument line x ∷ promoted_all line xs
 
       -- `printf`: the first argument is the format, a string literal that makes no object
       abbrev pub print_of : Where → ℕ → (format_line : ℕ) → State → List ℕ → List Expression → Answer (Operand × State)

@@ -1,5 +1,6 @@
 pub mod Answers
 pub mod Source
+pub mod Formats
 pub mod Layers
 pub mod States
 pub mod Predefined

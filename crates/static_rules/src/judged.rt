@@ -2,6 +2,7 @@
 
 use c_tree::{Place, Value};
 use c_types::TypeNo;
+use sqlite_items::Items;
 
 /// A place, or a value that is none.
 #[derive(Drop)]
@@ -37,4 +38,13 @@ pub struct Operand {
     pub value: Value,
     pub kind: TypeNo,
     pub known: Known,
+}
+
+/// The arguments of a call that were read (C11 6.5.2.2p2): their values as far as they fit, whether one of them does not,
+/// and whether there are as many as parameters.
+#[derive(Drop)]
+pub struct Arguments {
+    pub values: Items<Value>,
+    pub misfit: bool,
+    pub as_many: bool,
 }

@@ -9,7 +9,7 @@ mod states;
 mod symbols;
 
 pub use faults::{CheckError, CheckKind, Feature};
-pub use judged::{Judged, Known, Operand, Tree};
+pub use judged::{Arguments, Judged, Known, Operand, Tree};
 pub use plans::{Casting, Change, Choice, Indexing, Joint, Plan, Seen, Stepping, Updating};
 pub use states::{DeclaredFunction, GlobalSoFar, Made, State, Symbol, TagSymbol, Where};
 pub use symbols::BuiltIn;
