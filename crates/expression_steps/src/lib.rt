@@ -2,12 +2,11 @@
 #![tactic(auto)]
 
 mod adding;
-mod faults;
 mod literals;
 mod names;
 mod sizes;
 
-pub use adding::{in_table, kind_by_now, pointer_to};
+pub use adding::kind_by_now;
 pub use literals::{string, string_type};
 pub use names::named;
 pub use sizes::sized;

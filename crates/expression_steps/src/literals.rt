@@ -2,17 +2,16 @@
 
 ghost use Rattle.std.specs.Prelude.{◌≡◌, ◌≤◌, ◌+◌, length, IfOk};
 ghost use Rattle.c_types.specs.Adding.{with_array};
-ghost use Rattle.expression_steps.specs.Gives.{Gives};
+ghost use Rattle.rule_answers.specs.Gives.{Gives};
 ghost use Rattle.static_rules.specs.Answers.{or_bad_type};
 ghost use Rattle.static_rules.specs.Primaries as spec;
 ghost use Rattle.static_rules.specs.declared.faults.CheckKind.TheVariants as why;
 
-use crate::adding::has_room_beside;
-use crate::faults::{fault, out_of_memory};
 use byte_texts::Text;
 use c_tree::{Literal, MAX_INITIALISED_BYTES};
 use c_types::{TypeError, TypeNo, TypeTable};
 use operand_plans::CHAR;
+use rule_answers::{fault, has_room_beside, out_of_memory};
 use static_rules::{CheckError, CheckKind, Judged, State, Where};
 use std::alloc::{AllocError, Global};
 use tree_building::literal;

@@ -2,14 +2,14 @@
 
 ghost use Rattle.std.specs.Prelude.{◌≡◌, Ok, slice_get};
 ghost use Rattle.scoped_meanings.specs.Meanings.{declared_at};
-ghost use Rattle.expression_steps.specs.Gives.{Gives};
+ghost use Rattle.rule_answers.specs.Gives.{Gives};
 ghost use Rattle.static_rules.specs.Operands as operands;
 ghost use Rattle.static_rules.specs.Primaries as spec;
 
-use crate::adding::{kind_by_now, pointer_to};
-use crate::faults::{fault, out_of_memory};
+use crate::adding::kind_by_now;
 use c_tree::Variable;
 use operand_plans::{INT, VOID};
+use rule_answers::{fault, out_of_memory, pointer_to};
 use static_rules::{CheckError, CheckKind, Feature, Judged, State, Symbol};
 use tree_building::{constant, global, null, variable};
 

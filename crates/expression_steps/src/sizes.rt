@@ -3,13 +3,13 @@
 ghost use Rattle.std.specs.Prelude.{◌≡◌, Some, None, if◌then◌else◌};
 ghost use Rattle.c_types.specs.Shapes as shapes;
 ghost use Rattle.c_types.specs.Table.{shape_of};
-ghost use Rattle.expression_steps.specs.Gives.{Gives};
+ghost use Rattle.rule_answers.specs.Gives.{Gives};
 ghost use Rattle.static_rules.specs.Operators as spec;
 ghost use Rattle.well_typed.specs.Kinds.{has_size};
 
-use crate::faults::fault;
 use c_types::{TypeNo, TypeTable};
 use operand_plans::UNSIGNED_LONG;
+use rule_answers::fault;
 use static_rules::{CheckError, CheckKind, Judged, State};
 use tree_building::constant;
 
