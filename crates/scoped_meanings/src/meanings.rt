@@ -8,7 +8,11 @@ ghost use Rattle.std.specs.Prelude.{
   ◌++◌,
   length,
   take,
+  drop,
+  reverse,
   slice_get,
+  Some,
+  IfOk,
   OnOk,
   OnErr,
   OnSome,
@@ -21,6 +25,7 @@ use scoped_names::Names;
 use sqlite_items::Items;
 use std::alloc::{AllocError, Global};
 use std::marker::Model;
+use std::mem;
 
 /// Names, each of them a number, with their meanings, in the order of their declarations: contracts see the list. A
 /// look-up, a declaration and taking the last one back take constant time each, and a look-up is as fast for chosen names
@@ -28,7 +33,7 @@ use std::marker::Model;
 #[derive(Drop)]
 pub struct Meanings<A> {
     names: Names,
-    entries: Items<(u32, A)>,
+    entries: Vec<(u32, A)>,
 }
 
 impl<A> Model for Meanings<A> {
@@ -38,18 +43,28 @@ impl<A> Model for Meanings<A> {
 
     ghost use Rattle.scoped_meanings.specs.Meanings.{names_of};
 
-    ghost view = { λ m. m.entries };
+    ghost view = { λ m. m.entries.items };
 
-    ghost invariant = { λ m. m.names ≡ names_of m.entries };
+    ghost invariant = { λ m. m.names ≡ names_of m.entries.items };
 }
 
-/// Takes all items off but the first `start`.
-fn shorten<T: Drop>(items: &mut Items<T>, start: usize)
-    ensures { items.new ≡ take start items.old }
+/// What stands at a place.
+fn entry_at<T>(entries: &[T], place: usize) -> Option<&T>
+    ensures value { option_copied result ≡ slice_get entries.now place }
+    ensures within { OnSome result (place < length entries.now) }
 {
-    while items.len() > start {
-        items.pop();
+    entries.get(place)
+}
+
+/// The items in the other order.
+fn reversed<T: Drop>(alloc: Global, mut items: Items<T>) -> Result<Items<T>, AllocError>
+    ensures { IfOk result (λ other. other ≡ reverse items) }
+{
+    let mut other = Items::new(alloc);
+    while let Some(item) = items.pop() {
+        other.push(item)?;
     }
+    Ok(other)
 }
 
 impl<A> Meanings<A> {
@@ -59,7 +74,7 @@ impl<A> Meanings<A> {
     {
         Meanings {
             names: Names::new(alloc),
-            entries: Items::new(alloc),
+            entries: Vec::new(alloc),
         }
     }
 
@@ -82,7 +97,7 @@ impl<A> Meanings<A> {
         ensures value { option_copied result ≡ spec.declared_at self.now place }
         ensures within { OnSome result (place < length self.now) }
     {
-        match self.entries.get(place) {
+        match entry_at(self.entries.as_slice(), place) {
             Some(entry) => Some(&entry.1),
             None => None,
         }
@@ -134,10 +149,10 @@ impl<A: Drop> Meanings<A> {
         self.names.declare(name)?;
         match self.entries.push((name, meaning)) {
             Ok(()) => Ok(()),
-            Err(error) => {
+            Err(_) => {
                 let start = self.entries.len();
                 self.names.close(start);
-                Err(error)
+                Err(AllocError)
             }
         }
     }
@@ -147,15 +162,49 @@ impl<A: Drop> Meanings<A> {
         requires { place < length self.old }
         ensures { self.new ≡ spec.put_at self.old place meaning }
     {
+        let _ = self.replace(place, meaning);
+    }
+
+    /// Writes another meaning for what was declared at a place, and gives the one before.
+    pub fn replace(&mut self, place: usize, meaning: A) -> A
+        requires { place < length self.old }
+        ensures before { spec.declared_at self.old place ≡ Some result }
+        ensures after { self.new ≡ spec.put_at self.old place meaning }
+    {
         let name = self.names.name(place);
-        self.entries.set(place, (name, meaning));
+        let (_, before) = mem::replace(&mut self.entries[place], (name, meaning));
+        before
     }
 
     /// Takes all declarations back but the first `start`.
     pub fn close(&mut self, start: usize)
         ensures { self.new ≡ take start self.old }
     {
-        shorten(&mut self.entries, start);
+        self.entries.truncate(start);
         self.names.close(start);
+    }
+
+    /// Takes all declarations back but the first `start`, and gives them in their order.
+    pub fn split_off(&mut self, start: usize) -> Result<Items<(u32, A)>, AllocError>
+        ensures taken { IfOk result (λ taken. taken ≡ drop start self.old) }
+        ensures rest { OnOk result (self.new ≡ take start self.old) }
+        ensures err { OnErr result (self.new ≡ self.old) }
+    {
+        let start = start.min(self.entries.len());
+        let taken = self.entries.split_off(start)?;
+        self.names.close(start);
+        Ok(Items::from_vec(taken))
+    }
+
+    /// Declares names behind all others in the order of the list, as one that was taken off. Where memory runs out only
+    /// the first of them are declared.
+    pub fn extend(&mut self, alloc: Global, entries: Items<(u32, A)>) -> Result<(), AllocError>
+        ensures { OnOk result (self.new ≡ self.old ++ entries) }
+    {
+        let mut waiting = reversed(alloc, entries)?;
+        while let Some((name, meaning)) = waiting.pop() {
+            self.declare(name, meaning)?;
+        }
+        Ok(())
     }
 }
