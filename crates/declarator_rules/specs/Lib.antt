@@ -1,4 +1,5 @@
-pub mod Faults
+pub mod Enumerators
 pub mod Flexible
-pub mod Gives
+pub mod Marks
+pub mod Names
 pub mod Words

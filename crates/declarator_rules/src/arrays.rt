@@ -6,19 +6,18 @@ ghost use Rattle.c_types.specs.Shapes as shapes;
 ghost use Rattle.c_types.specs.Table.{IsNumber, shape_of};
 ghost use Rattle.declaration_rules.specs.Parts as spec;
 ghost use Rattle.declarator_rules.specs.Flexible.{flexible_by};
-ghost use Rattle.declarator_rules.specs.Gives.{Gives};
+ghost use Rattle.rule_answers.specs.Gives.{Gives};
 ghost use Rattle.static_rules.specs.Operands.{in_table};
 
-use crate::adding::{has_room_beside, in_table};
-use crate::faults::{out_of_memory, refused};
 use c_types::{CType, Member, TypeError, TypeNo, TypeTable, law_table};
+use rule_answers::{has_room_beside, in_table, out_of_memory, refused};
 use static_rules::{CheckError, Made, State};
 
 /// The bytes of the largest object.
 const LARGEST: u64 = 1_048_559;
 
 /// Whether a type is an array that is open at its end.
-fn is_open(types: &TypeTable, kind: TypeNo) -> bool
+pub fn is_open(types: &TypeTable, kind: TypeNo) -> bool
     ensures { result ≡ shapes.is_open (shape_of types.now kind) }
 {
     law_table(types);

@@ -2,14 +2,13 @@
 
 ghost use Rattle.std.specs.Prelude.{◌≡◌, Ok};
 ghost use Rattle.declaration_rules.specs.Parts as spec;
-ghost use Rattle.declarator_rules.specs.Gives.{Gives};
+ghost use Rattle.rule_answers.specs.Gives.{Gives};
 ghost use Rattle.static_rules.specs.Operands.{pointer_to};
 ghost use Rattle.well_typed.specs.Kinds.{element};
 
-use crate::adding::pointer_to;
-use crate::faults::{fault, out_of_memory};
 use c_types::{CType, TypeError, TypeNo, TypeTable, law_table};
 use operand_plans::{element, has_size, is_aggregate};
+use rule_answers::{fault, out_of_memory, pointer_to};
 use static_rules::{CheckError, CheckKind, Feature, Made, State};
 
 /// A parameter has a size, and is no struct or union.

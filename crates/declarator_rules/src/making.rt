@@ -2,12 +2,12 @@
 
 ghost use Rattle.std.specs.Prelude.{◌≡◌};
 ghost use Rattle.declaration_rules.specs.Parts as spec;
-ghost use Rattle.declarator_rules.specs.Gives.{Gives};
+ghost use Rattle.rule_answers.specs.Gives.{Gives};
 
 use crate::arrays::{array_of, open_array_of};
-use crate::faults::fault;
-use crate::parts::{function_of, pointed};
+use crate::parts::{copy_of, function_of, pointed};
 use declaration_rules::Part;
+use rule_answers::{fault, out_of_memory};
 use static_rules::{CheckError, CheckKind, Feature, Made, State};
 use std::alloc::Global;
 
@@ -65,4 +65,19 @@ pub fn made(
         }
     }
     Ok(kind)
+}
+
+/// The same around the type of specifiers that more declarators follow.
+pub fn made_of(
+    alloc: Global,
+    state: &mut State,
+    parts: &[Part],
+    base: &Made,
+) -> Result<Made, CheckError>
+    ensures { Gives (spec.made state.old parts.now base.now) result state.new }
+{
+    match copy_of(alloc, base) {
+        Ok(base) => made(alloc, state, parts, base),
+        Err(_) => Err(out_of_memory()),
+    }
 }

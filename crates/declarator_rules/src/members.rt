@@ -1,35 +1,77 @@
-//! Members (C11 6.7.2.1), and values of enumerations (6.7.2.2).
+//! Members of structs and unions (C11 6.7.2.1): the names of one list are new in it.
 
-ghost use Rattle.std.specs.Prelude.{◌≡◌, ◌+ℤ◌, pos};
-ghost use Rattle.c_types.specs.Adding as adding;
-ghost use Rattle.well_typed.specs.Kinds as kinds;
+ghost use Rattle.std.specs.Prelude.{◌≡◌, Ok, MatchResult};
+ghost use Rattle.declaration_rules.specs.Specifiers as spec;
+ghost use Rattle.declarator_rules.specs.Names.{spelling_of};
+ghost use Rattle.rule_answers.specs.Faults.{want_of_memory};
+ghost use Rattle.rule_answers.specs.Gives.{Tells};
+ghost use Rattle.static_rules.specs.Source.{Source};
+ghost use Rattle.static_rules.specs.declared.states.State.{State as Whole};
 
-use c_types::Field;
-use operand_plans::{INT, wrapped};
+use crate::fields::Fields;
+use crate::making::made_of;
+use crate::parts::member_kind;
+use c_types::TypeNo;
+use declaration_rules::{Around, DeclaredName};
+use rule_answers::{fault, out_of_memory};
+use static_rules::{CheckError, CheckKind, Made, State};
+use std::alloc::Global;
 
-/// Whether a member of this name was found before.
-pub fn is_named(spelling: &[u8], mut found: &[Field]) -> bool
-    ensures { result ≡ adding.is_named spelling.now found.entry.now }
+/// Whether a member of the name was found before.
+fn is_repeated(found: &Fields, name: Option<DeclaredName>, spelling: &[u8]) -> bool
+    ensures { (source : Source) → spelling_of source name ≡ spelling.now → result ≡ spec.is_field source found.now name }
 {
-    while let [first, rest @ ..] = found {
-        if first.name.bytes() == spelling {
-            return true;
-        }
-        found = rest;
+    match name {
+        Some(_) => found.has(spelling),
+        None => false,
     }
-    false
 }
 
-/// The value of an enumeration constant, which is an `int` (C11 6.7.2.2p3).
-pub fn enumerator_value(value: i128) -> i32
-    ensures { result ≡ kinds.wrapped 6 value }
+/// Adds a member where the declarator has a name.
+fn add_field(
+    alloc: Global,
+    found: &mut Fields,
+    name: Option<DeclaredName>,
+    spelling: &[u8],
+    kind: TypeNo,
+) -> Result<(), CheckError>
+    ensures { (source : Source) (s : Whole) → spelling_of source name ≡ spelling.now → MatchResult result (λ _. spec.with_field source found.old name (kind, s) ≡ (found.new, s)) (λ e. e ≡ want_of_memory) }
 {
-    wrapped(INT, value) as i32
+    match name {
+        None => Ok(()),
+        Some(_) => match found.push(alloc, spelling, kind) {
+            Ok(()) => Ok(()),
+            Err(_) => Err(out_of_memory()),
+        },
+    }
 }
 
-/// The value of an enumeration constant behind another.
-pub fn next_value(value: i32) -> i32
-    ensures { result ≡ kinds.wrapped 6 (value +ℤ pos 1) }
+/// A declarator of a member, behind the members that were found: the spelling is that of its name.
+#[tactic(auto, using(crate::proofs::Tellings::bound_tells))]
+pub fn field_made(
+    alloc: Global,
+    state: &mut State,
+    here: u32,
+    base: &Made,
+    found: &mut Fields,
+    declared: &Around,
+    spelling: &[u8],
+) -> Result<(), CheckError>
+    ensures { (source : Source) → spelling_of source declared.now.name ≡ spelling.now → MatchResult result (λ _. spec.field_made source here base.now found.old (declared.now, state.old) ≡ Ok (found.new, state.new)) (λ e. Tells (spec.field_made source here base.now found.old (declared.now, state.old)) e) }
 {
-    enumerator_value(i128::from(value) + 1)
+    if is_repeated(found, declared.name, spelling) {
+        return Err(fault(CheckKind::Redefined, here));
+    }
+    let whole = match made_of(alloc, state, declared.parts.as_slice(), base) {
+        Ok(whole) => whole,
+        Err(error) => return Err(error),
+    };
+    let kind = match member_kind(here, state, &whole) {
+        Ok(kind) => kind,
+        Err(error) => return Err(error),
+    };
+    match add_field(alloc, found, declared.name, spelling, kind) {
+        Ok(()) => Ok(()),
+        Err(_) => Err(out_of_memory()),
+    }
 }

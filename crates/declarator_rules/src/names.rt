@@ -3,13 +3,13 @@
 ghost use Rattle.std.specs.Prelude.{◌≡◌, ℕ, ◌||◌, map, take, is_some};
 ghost use Rattle.static_rules.specs.Predefined as predefined;
 ghost use Rattle.static_rules.specs.States as states;
-ghost use Rattle.declarator_rules.specs.Gives.{GivesState};
+ghost use Rattle.rule_answers.specs.Gives.{GivesState};
 
-use crate::faults::{fault, out_of_memory};
 use c_types::TypeNo;
 use operand_plans::{
     CHAR, INT, LONG, SHORT, UNSIGNED_CHAR, UNSIGNED_INT, UNSIGNED_LONG, UNSIGNED_SHORT,
 };
+use rule_answers::{fault, out_of_memory};
 use static_rules::{BuiltIn, CheckError, CheckKind, Made, State, Symbol, Where};
 
 /// The functions that each text has, by their names.

@@ -3,16 +3,15 @@
 ghost use Rattle.std.specs.Prelude.{◌≡◌, Ok, IfOk};
 ghost use Rattle.declaration_rules.specs.Parts as spec;
 ghost use Rattle.declaration_rules.specs.Specifiers as specifiers;
-ghost use Rattle.declarator_rules.specs.Gives.{Gives};
+ghost use Rattle.rule_answers.specs.Gives.{Gives};
 ghost use Rattle.static_rules.specs.Operands.{in_table};
 ghost use Rattle.static_rules.specs.States.{symbol_of};
 
-use crate::adding::{in_table, pointer_to};
-use crate::faults::{fault, out_of_memory};
 use c_tree::{MAX_PARAMETERS, Variable};
 use c_types::TypeNo;
 use declaration_rules::ParameterList;
 use operand_plans::{element, is_aggregate};
+use rule_answers::{fault, in_table, out_of_memory, pointer_to};
 use sqlite_items::Items;
 use static_rules::{CheckError, CheckKind, Feature, Made, State, Symbol};
 use std::alloc::{AllocError, Global};

@@ -2,9 +2,9 @@
 
 ghost use Rattle.std.specs.Prelude.{◌≡◌};
 ghost use Rattle.declaration_rules.specs.Declarators as spec;
-ghost use Rattle.declarator_rules.specs.Gives.{GivesValue};
+ghost use Rattle.rule_answers.specs.Gives.{GivesValue};
 
-use crate::faults::fault;
+use rule_answers::fault;
 use static_rules::{CheckError, CheckKind, Feature};
 
 /// How many elements an array of this size has (C11 6.7.6.2p1). A count that no object has is as good as any other such.

@@ -3,15 +3,14 @@
 ghost use Rattle.std.specs.Prelude.{◌≡◌};
 ghost use Rattle.c_types.specs.Adding as adding;
 ghost use Rattle.declaration_rules.specs.Specifiers as spec;
-ghost use Rattle.declarator_rules.specs.Gives.{Gives, Makes};
+ghost use Rattle.rule_answers.specs.Gives.{Gives, Makes};
 ghost use Rattle.static_rules.specs.Source.{Source, spelled};
 ghost use Rattle.static_rules.specs.States.{tag_of};
 
-use crate::adding::MAX_TYPES;
-use crate::faults::{fault, out_of_memory};
 use c_types::{Text, TypeNo};
 use declaration_rules::{Opened, Setting};
 use operand_plans::{INT, has_size};
+use rule_answers::{MAX_TYPES, fault, out_of_memory};
 use static_rules::{CheckError, CheckKind, State, TagSymbol, Where};
 use std::alloc::Global;
 
