@@ -1,0 +1,4 @@
+pub mod Closing
+pub mod Definitions
+pub mod Numbered
+pub mod Types
