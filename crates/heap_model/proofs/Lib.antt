@@ -7,6 +7,7 @@ pub mod Apart
 pub mod Merge
 pub mod Examples
 pub mod Resting
+pub mod Rows
 pub mod Segments
 pub mod State
 pub mod Push

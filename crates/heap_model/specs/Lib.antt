@@ -16,4 +16,6 @@ pub mod Order
 pub mod Extension
 pub mod State
 pub mod History
+pub mod Rows
+pub mod Segment
 pub mod Segments

@@ -4,13 +4,11 @@ ghost use Rattle.std.specs.Prelude.{◌≡◌, ◌≤◌, ◌<◌, ◌+◌, ◌-
 ghost use Rattle.heap_model.specs.History.{most_entries};
 
 use crate::calls::Entry;
+use crate::segment::{SEGMENT, Segment};
 use std::alloc::{AllocError, Global};
 use std::collections::VecDeque;
 use std::marker::Model;
 use std::mem;
-
-/// How many entries a segment has.
-const SEGMENT: usize = 1024;
 
 /// How many segments a history has at most: all together have room for 2^37 entries.
 const MOST_SEGMENTS: usize = 1 << 27;
@@ -20,9 +18,9 @@ const MOST_SEGMENTS: usize = 1 << 27;
 pub struct History {
     alloc: Global,
     /// The segments in which there is no place left.
-    full: VecDeque<Vec<Entry>>,
+    full: VecDeque<Segment>,
     /// The segment that takes the next entries.
-    last: Vec<Entry>,
+    last: Segment,
 }
 
 impl Model for History {
@@ -45,7 +43,7 @@ impl History {
         History {
             alloc,
             full: VecDeque::new(alloc),
-            last: Vec::new(alloc),
+            last: Segment::unmade(alloc),
         }
     }
 
@@ -57,14 +55,14 @@ impl History {
         ensures err { OnErr result (self.new ≡ self.old) }
         ensures full { OnErr result (self.old.spare ≡ 0) }
     {
-        if self.last.len() < self.last.capacity() {
-            return Ok(());
+        if self.last.has_place() {
+            return self.last.reserve();
         }
         if self.full.len() + 1 >= MOST_SEGMENTS {
             return Err(AllocError);
         }
         self.full.reserve(1)?;
-        let next = Vec::with_capacity(self.alloc, SEGMENT)?;
+        let next = Segment::new(self.alloc)?;
         let filled = mem::replace(&mut self.last, next);
         if !filled.is_empty() {
             self.full.push_back_reserved(filled);
@@ -78,7 +76,7 @@ impl History {
         ensures entries { self.new.entries ≡ self.old.entries ++ entry ∷ [] }
         ensures spare { self.new.spare + 1 ≡ self.old.spare }
     {
-        self.last.push_reserved(entry);
+        self.last.push(entry);
     }
 
     /// How many entries there are.
@@ -97,9 +95,9 @@ impl History {
         let place = at as usize % SEGMENT;
         let segment = at as usize / SEGMENT;
         if segment < self.full.len() {
-            self.full[segment][place]
+            self.full[segment].get(place)
         } else {
-            self.last[place]
+            self.last.get(place)
         }
     }
 
@@ -118,8 +116,8 @@ impl History {
 /// The entries of a history that are left to go through. A segment is given up behind its last entry.
 #[derive(Drop)]
 pub struct Entries {
-    full: VecDeque<Vec<Entry>>,
-    last: Vec<Entry>,
+    full: VecDeque<Segment>,
+    last: Segment,
     /// The place of the next entry in the first segment that is left.
     at: usize,
 }
@@ -147,11 +145,11 @@ impl Entries {
             if self.at >= self.last.len() {
                 return None;
             }
-            let entry = self.last[self.at];
+            let entry = self.last.get(self.at);
             self.at += 1;
             return Some(entry);
         };
-        let entry = first[self.at];
+        let entry = first.get(self.at);
         self.at += 1;
         if self.at == SEGMENT {
             let _ = self.full.pop_front();

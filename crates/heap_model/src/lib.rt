@@ -8,6 +8,8 @@ mod history;
 mod history_laws;
 mod laws;
 mod objects;
+mod row;
+mod segment;
 mod sent;
 
 pub use access::{low_bytes, sign_extension, width_of};

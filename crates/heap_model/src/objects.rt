@@ -4,7 +4,7 @@ ghost use Rattle.std.specs.Prelude.{◌≡◌, ◌<◌, ◌^◌};
 ghost use Rattle.heap_model.specs.Objects as spec;
 ghost use Rattle.lowfat_regions.specs.Regions.{IsRegion, slots};
 
-use lowfat_regions::{HEADER_BYTES, slot_address};
+use lowfat_regions::object_address;
 
 /// How many objects a region makes at most: as many as versions tell apart.
 pub const MAX_OBJECTS: u32 = (1 << 24) - 1;
@@ -20,6 +20,5 @@ pub fn offset_of(region: u32, slot: u32, address: u64) -> u64
     requires address { address < 2 ^ 40 }
     ensures { result ≡ spec.offset_in (record { region = region; number = slot }) address }
 {
-    let first = slot_address(region, slot) + HEADER_BYTES;
-    (address + ADDRESSES - first) % ADDRESSES
+    (address + ADDRESSES - object_address(region, slot)) % ADDRESSES
 }

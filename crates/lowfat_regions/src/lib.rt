@@ -12,4 +12,4 @@ pub use laws::law_slots;
 pub use regions::{
     HEADER_BYTES, MAX_OBJECT_BYTES, REGIONS, class_of, region_of, size_of_region, slots_of,
 };
-pub use slots::{slot_address, slot_base, slot_number};
+pub use slots::{object_address, slot_address, slot_base, slot_number};

@@ -5,7 +5,7 @@ ghost use Rattle.lowfat_regions.specs.Regions as spec;
 ghost use Rattle.lowfat_regions.specs.Regions.{IsRegion, slots};
 ghost use Rattle.lowfat_regions.specs.Shapes as shapes;
 
-use crate::regions::region_of;
+use crate::regions::{HEADER_BYTES, region_of};
 use crate::shapes::{Shape, shape_of};
 
 /// More than the slots of a region and one slot past them have together.
@@ -93,4 +93,15 @@ pub fn slot_address(region: u32, slot: u32) -> u64
 {
     let shape = shape_of(region);
     shape.first + u64::from(slot) * shape.size
+}
+
+/// Where the object in a slot of a region begins, past the slot's header.
+#[tactic(auto, using(crate::proofs::Addresses::size_ok))]
+pub fn object_address(region: u32, slot: u32) -> u64
+    requires region { IsRegion region }
+    requires slot { slot < slots region }
+    ensures value { result ≡ spec.object_address (record { region = region; number = slot }) }
+    ensures within { (region * 2 ^ 32 < result) × (result < (region + 1) * 2 ^ 32) }
+{
+    slot_address(region, slot) + HEADER_BYTES
 }

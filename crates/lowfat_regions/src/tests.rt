@@ -1,7 +1,7 @@
 //! Sizes, addresses and slots, with values worked out by hand.
 
 use crate::{
-    HEADER_BYTES, REGIONS, class_of, region_of, size_of_region, slot_address, slot_base,
+    REGIONS, class_of, object_address, region_of, size_of_region, slot_address, slot_base,
     slot_number, slots_of,
 };
 use std::test::Fail;
@@ -175,7 +175,7 @@ fn first_byte_and_base(region: u32, size: u64) -> Option<(u64, u64)> {
     if slots_of(region) < 1 {
         return None;
     }
-    let first = slot_address(region, 0) + HEADER_BYTES;
+    let first = object_address(region, 0);
     let end = first + size;
     region_of(end)?;
     Some((first, slot_base(end)))
