@@ -1,0 +1,30 @@
+use Rattle.std.proofs.Common.{◌+◌, ap, sym, subst, ◌∙◌, arith}
+use Rattle.lowfat_regions.specs.Regions.{size_of}
+use Rattle.slot_store.specs.Cells.{after_store}
+use Rattle.slot_store.specs.Slots.{Contents, cells_of}
+use Rattle.object_slots.specs.View.{header_in, state_of, AreKept}
+use Rattle.object_slots.proofs.Behind.{behind-store, before-store}
+use Rattle.object_slots.proofs.Laws.{size-bound}
+use Rattle.object_slots.proofs.Kept.{live-room, live-below, live-object, kept-written, cells-seen}
+use Rattle.object_slots.proofs.slots.Slots.store.Goals as goal
+
+pub overflow_add-offset : goal.overflow_add-offset
+overflow_add-offset c =
+    omega (arith, live-room c.self.inside.region c.self.inside.store c.self.inside.free c.self.inside.made c.self.invariant c.args.self.now c.self.view_is c.args.slot (c.args.offset + c.args.width) c.requires.live c.requires.inside, size-bound c.self.inside.region c.self.invariant.is_region)
+
+pub store-requires-clause-inside : goal.store-requires-clause-inside
+store-requires-clause-inside c =
+    omega (arith, live-room c.self.inside.region c.self.inside.store c.self.inside.free c.self.inside.made c.self.invariant c.args.self.now c.self.view_is c.args.slot (c.args.offset + c.args.width) c.requires.live c.requires.inside, ap size_of c.self.invariant.same_region)
+
+pub invariant_of-self : goal.invariant_of-self
+invariant_of-self c =
+    subst (λ (s : Contents). AreKept c.self.inside.region s c.self.inside.free c.self.inside.made) (sym c.store.ensures)
+    (kept-written c.self.inside.region c.self.inside.store c.self.inside.free c.self.inside.made c.self.invariant c.args.slot (after_store (16 + c.args.offset) c.args.width c.args.bits (cells_of c.self.inside.store c.args.slot))
+    (live-below c.self.inside.region c.self.inside.store c.self.inside.free c.self.inside.made c.self.invariant c.args.self.now c.self.view_is c.args.slot c.requires.live) (before-store (cells_of c.self.inside.store c.args.slot) c.args.offset c.args.width c.args.bits))
+
+pub returns : goal.returns
+returns c = λ o e.
+    ap (λ s. state_of c.self.inside.region s c.self.inside.free) c.store.ensures
+    ∙ cells-seen c.self.inside.region c.self.inside.store c.self.inside.free c.self.inside.made c.self.invariant c.args.self.now c.self.view_is c.args.slot o e (after_store (16 + c.args.offset) c.args.width c.args.bits (cells_of c.self.inside.store c.args.slot)) (after_store c.args.offset c.args.width c.args.bits o.cells)
+    (before-store (cells_of c.self.inside.store c.args.slot) c.args.offset c.args.width c.args.bits)
+    (behind-store (cells_of c.self.inside.store c.args.slot) (header_in (cells_of c.self.inside.store c.args.slot)).size c.args.offset c.args.width c.args.bits ∙ ap (λ o. after_store c.args.offset c.args.width c.args.bits o.cells) (sym (live-object c.self.inside.region c.self.inside.store c.self.inside.free c.self.inside.made c.self.invariant c.args.self.now c.self.view_is c.args.slot o e)))
