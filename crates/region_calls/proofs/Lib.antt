@@ -1,0 +1,9 @@
+pub mod Standing
+pub mod Placing
+pub mod Freeing
+pub mod Ending
+pub mod Accessing
+pub mod Reading
+pub mod Writing
+pub mod Knowing
+pub mod Stepping
