@@ -74,7 +74,8 @@ module _ (P : Body ℕ → Type 0) where
       → P (record { elem = o.elem; fixed = o.fixed; cells = cells }) → HoldsIn P states
       → HoldsIn P (set states n (with_cells_of (state_at states n) o cells))
   holds-cells states n o cells below new known =
-      holds-by states (set states n (with_cells_of (state_at states n) o cells)) n (with_cells_of (state_at states n) o cells)
+      holds-by states (set states n (with_cells_of (state_at states n) o cells)) n
+      (with_cells_of (state_at states n) o cells)
       (set-at states n (with_cells_of (state_at states n) o cells) below)
       (λ b e. some-holds (record { elem = o.elem; fixed = o.fixed; cells = cells }) b new e) known
 
@@ -83,7 +84,8 @@ module _ (P : Body ℕ → Type 0) where
   holds-object states n o next here known = go (nat_lt n (length states)) refl
     where
       go : (b : Bool) → nat_lt n (length states) ≡ b
-          → HoldsIn P (cond b (set states n (next_object (state_at states n) o)) (states ++ next_object fresh_slot o ∷ []))
+          → HoldsIn P (cond b (set states n (next_object (state_at states n) o))
+          (states ++ next_object fresh_slot o ∷ []))
       go true e =
           holds-by states (set states n (next_object (state_at states n) o)) n (next_object (state_at states n) o)
           (set-at states n (next_object (state_at states n) o) (ltb-true _ _ e)) (λ b. some-holds o b here) known
@@ -94,7 +96,8 @@ module _ (P : Body ℕ → Type 0) where
 -- ---- nothing is done
 
 -- a report leaves the heap
-stays : (call : Call) (report : ReportKind) (worker number : ℕ) (h : Words) → next worker number h call (Report report) ≡ h
+stays : (call : Call) (report : ReportKind) (worker number : ℕ) (h : Words)
+    → next worker number h call (Report report) ≡ h
 unfolding next
 stays (Alloc elem size fixed) report worker number h = refl
 stays (Free p fixed) report worker number h = refl
@@ -106,7 +109,8 @@ stays (Add p reach kind n) report worker number h = refl
 pub served-report : (st : State) (call : Call) (report : ReportKind) → suits_call call (Report report) ≡ true
     → IsServed st st call (Report report)
 served-report st call report suits = record {
-  next = λ worker number h stands. subst (λ (g : Words). StandsFor st g) (sym (stays call report worker number h)) stands;
+  next = λ worker number h stands. subst (λ (g : Words). StandsFor st g)
+      (sym (stays call report worker number h)) stands;
   suits = λ pieces. suits;
   elements = λ layouts types known. known;
   pieces = λ pieces. pieces;
@@ -144,7 +148,8 @@ ended st n = record {
   resting = last_resting (slots st.region) (st.resting ++ n ∷ []);
 }
 
-module _ (st : State) (anchor p n : ℕ) (facts : Facts) (named : NamesLive st anchor p n facts) (not_null : (version_of p == 0) ≡ false) where
+module _ (st : State) (anchor p n : ℕ) (facts : Facts) (named : NamesLive st anchor p n facts)
+    (not_null : (version_of p == 0) ≡ false) where
   pub died-stands : (h : Words) → StandsFor st h → StandsFor (ended st n) (with_dead (names anchor p) h)
   died-stands h stands =
       let slot = nth_slot st n in
@@ -159,7 +164,8 @@ module _ (st : State) (anchor p n : ℕ) (facts : Facts) (named : NamesLive st a
       subst (λ (s : Option Slot). StandsFor now (with_dead (is_at s (version_of p)) h)) (sym named.at.slot)
       (stands-died st now h stands slot refl (version_of p) named.object found changed above refl)
 
-module _ (st : State) (p n : ℕ) (fixed : Bool) (facts : Facts) (named : NamesLive st (address_of p) p n facts) (not_null : (version_of p == 0) ≡ false) where
+module _ (st : State) (p n : ℕ) (fixed : Bool) (facts : Facts) (named : NamesLive st (address_of p) p n facts)
+    (not_null : (version_of p == 0) ≡ false) where
   pub served-end : IsServed st (ended st n) (Free p fixed) Done
   unfolding next
   served-end = record {

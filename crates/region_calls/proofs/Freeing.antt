@@ -21,7 +21,8 @@ use Rattle.region_calls.specs.Naming.{IsInSlot, nth_slot}
 
 -- a word of a dead object's first byte, and one past it
 pub dead-first : (k : ℕ) (fixed : Bool) → k ≡ 0 → Report DoubleFree ≡ reply (free_outcome k fixed None true)
-dead-first k fixed e = sym (ap (λ b. reply (cond {A = Outcome ℕ} b (Refused DoubleFree) (Refused BadFree))) (eq-eqb k 0 e))
+dead-first k fixed e = sym
+    (ap (λ b. reply (cond {A = Outcome ℕ} b (Refused DoubleFree) (Refused BadFree))) (eq-eqb k 0 e))
 
 pub dead-inside : (k : ℕ) (fixed : Bool) → (k ≡ 0 → ⊥) → Report BadFree ≡ reply (free_outcome k fixed None true)
 dead-inside k fixed apart =
@@ -41,7 +42,8 @@ same-mark true false e = cc
 same-mark false true e = cc
 
 -- a word of its first byte, where it is fixed as told
-pub live-ends : (k : ℕ) (fixed known dead : Bool) (o : Option (Body ℕ)) (b : Body ℕ) → o ≡ Some b → k ≡ 0 → known ≡ b.fixed
+pub live-ends : (k : ℕ) (fixed known dead : Bool) (o : Option (Body ℕ)) (b : Body ℕ) → o ≡ Some b → k ≡ 0
+    → known ≡ b.fixed
     → not (beq known fixed) ≡ false → Done ≡ reply (free_outcome k fixed o dead)
 live-ends k fixed known dead o b is first known_is same =
     sym (ap (λ o. reply (free_outcome k fixed o dead)) is
@@ -57,32 +59,42 @@ module _ (layouts : Layouts) (live : Live) (dead : Dead) (p : ℕ) where
     unfolding answer_by at-object
     free-zero zero = sym (ap (λ b. cond b Done (unless_null p (Report BadFree) at-object)) (eq-eqb p 0 zero))
 
-    pub free-null : (p ≡ 0 → ⊥) → (version_of p == 0) ≡ true → Report BadFree ≡ answer_by layouts live dead (Free p fixed)
+    pub free-null : (p ≡ 0 → ⊥) → (version_of p == 0) ≡ true
+        → Report BadFree ≡ answer_by layouts live dead (Free p fixed)
     unfolding answer_by at-object
     free-null some null =
-        sym (ap (λ b. cond b Done (unless_null p (Report BadFree) at-object)) (ne_eqb p 0 some) ∙ ap (λ b. cond b (Report BadFree) at-object) null)
+        sym (ap (λ b. cond b Done (unless_null p (Report BadFree) at-object)) (ne_eqb p 0 some) ∙ ap
+        (λ b. cond b (Report BadFree) at-object) null)
 
-    pub free-at : (p ≡ 0 → ⊥) → (version_of p == 0) ≡ false → (o : Option (Body ℕ)) (d : Bool) → live (address_of p) p ≡ o → dead (address_of p) p ≡ d
+    pub free-at : (p ≡ 0 → ⊥) → (version_of p == 0) ≡ false → (o : Option (Body ℕ)) (d : Bool)
+        → live (address_of p) p ≡ o → dead (address_of p) p ≡ d
         → reply (free_outcome (offset (address_of p) p) fixed o d) ≡ answer_by layouts live dead (Free p fixed)
     unfolding answer_by at-object
     free-at some not_null o d e f =
-        sym (ap (λ b. cond b Done (unless_null p (Report BadFree) at-object)) (ne_eqb p 0 some) ∙ ap (λ b. cond b (Report BadFree) at-object) not_null
+        sym (ap (λ b. cond b Done (unless_null p (Report BadFree) at-object)) (ne_eqb p 0 some) ∙ ap
+        (λ b. cond b (Report BadFree) at-object) not_null
         ∙ (λ i. reply (free_outcome (offset (address_of p) p) fixed (e i) (f i))))
 
   module _ (want : ℕ) where
     pub check-null : (version_of p == 0) ≡ true → Report Null ≡ answer_by layouts live dead (Check p want)
     unfolding answer_by
-    check-null null = sym (ap (λ b. cond b (Report Null) (check_reply layouts (offset (address_of p) p) (first_byte (address_of p)) want (live (address_of p) p))) null)
+    check-null null = sym
+        (ap (λ b. cond b (Report Null)
+        (check_reply layouts (offset (address_of p) p) (first_byte (address_of p)) want (live (address_of p) p))) null)
 
     pub check-at : (version_of p == 0) ≡ false → (o : Option (Body ℕ)) → live (address_of p) p ≡ o
-        → check_reply layouts (offset (address_of p) p) (first_byte (address_of p)) want o ≡ answer_by layouts live dead (Check p want)
+        → check_reply layouts (offset (address_of p) p)
+        (first_byte (address_of p)) want o ≡ answer_by layouts live dead (Check p want)
     unfolding answer_by
     check-at not_null o e =
-        sym (ap (λ b. cond b (Report Null) (check_reply layouts (offset (address_of p) p) (first_byte (address_of p)) want (live (address_of p) p))) not_null
+        sym (ap (λ b. cond b (Report Null)
+        (check_reply layouts (offset (address_of p) p) (first_byte (address_of p)) want
+        (live (address_of p) p))) not_null
         ∙ ap (check_reply layouts (offset (address_of p) p) (first_byte (address_of p)) want) e)
 
 -- the first byte, where an address is in a slot
-pub first-here : (st : State) (anchor n : ℕ) → IsInSlot st anchor n → first_byte anchor ≡ slot_address (nth_slot st n) + 16
+pub first-here : (st : State) (anchor n : ℕ) → IsInSlot st anchor n
+    → first_byte anchor ≡ slot_address (nth_slot st n) + 16
 unfolding first_byte slot_at
 first-here st anchor n at = ap (λ s. slot_address (unwrap_or s (record { region = 0; number = 0 })) + 16) at.slot
 
@@ -98,7 +110,14 @@ keep-none (x ∷ xs) = keep-none xs
 
 null-next : (fixed : Bool) (worker number : ℕ) (h : Words) → next worker number h (Free 0 fixed) Done ≡ h
 unfolding next slot_of slot_within region_of address_of
-null-next fixed worker number h = λ i. record { live = keep-all h.live i; dead = ap (λ os. map (λ (o : Object Name ℕ). o.name) os ++ h.dead) (keep-none h.live) i }
+null-next fixed worker number h = λ
+    i. record {
+      live = keep-all h.live i;
+      dead = ap (λ os. map (λ (o : Object Name ℕ). o.name) os ++ h.dead)
+          (keep-none h.live) i;
+    }
 
-pub null-frees-nothing : (st : State) (fixed : Bool) (worker number : ℕ) (h : Words) → StandsFor st h → StandsFor st (next worker number h (Free 0 fixed) Done)
-null-frees-nothing st fixed worker number h stands = subst (λ (g : Words). StandsFor st g) (sym (null-next fixed worker number h)) stands
+pub null-frees-nothing : (st : State) (fixed : Bool) (worker number : ℕ) (h : Words) → StandsFor st h
+    → StandsFor st (next worker number h (Free 0 fixed) Done)
+null-frees-nothing st fixed worker number h stands =
+    subst (λ (g : Words). StandsFor st g) (sym (null-next fixed worker number h)) stands

@@ -24,20 +24,26 @@ use Rattle.object_slots.specs.SlotStates.{state_at, count_live, next_object, wit
 use Rattle.region_calls.proofs.Standing.{here, changed-object}
 
 -- whether a region is full, by its slots
-pub full-same : (st : State) (h : Words) → StandsFor st h → is_full region h st.region ≡ ((live_objects st + length st.resting == slots st.region) || (all_versions st == 2 ^ 24 - 1))
+pub full-same : (st : State) (h : Words) → StandsFor st h
+    → is_full region h st.region ≡
+    ((live_objects st + length st.resting == slots st.region) || (all_versions st == 2 ^ 24 - 1))
 unfolding is_full
-full-same st h k = λ i. (k.region_live i + sym (rest-count st h k) i == slots st.region) || (k.region_made i == 2 ^ 24 - 1)
+full-same st h k = λ i. (k.region_live i + sym (rest-count st h k) i == slots st.region) ||
+    (k.region_made i == 2 ^ 24 - 1)
 
 -- ---- an object is placed in a slot
 
-module _ (st : State) (n : ℕ) (o : Body ℕ) (word : ℕ) (free : (state_at st.states n).body ≡ None) (inside : n ≤ length st.states) (is_slot : slot_of (address_of word) ≡ Some (nth_slot st n)) (version : version_of word ≡ 1 + (state_at st.states n).versions) where
+module _ (st : State) (n : ℕ) (o : Body ℕ) (word : ℕ) (free : (state_at st.states n).body ≡ None)
+    (inside : n ≤ length st.states) (is_slot : slot_of (address_of word) ≡ Some (nth_slot st n))
+    (version : version_of word ≡ 1 + (state_at st.states n).versions) where
   free-there : (state_of st (nth_slot st n)).body ≡ None
   free-there = ap (λ p. p.body) (here st n) ∙ free
 
   version-there : version_of word ≡ 1 + (state_of st (nth_slot st n)).versions
   version-there = version ∙ ap (λ p. 1 + p.versions) (sym (here st n))
 
-  pub may-place : address_of word ≡ slot_address (nth_slot st n) + 16 → (Contains st.resting n → ⊥) → (h : Words) → StandsFor st h → MayPlace h st.region word
+  pub may-place : address_of word ≡ slot_address (nth_slot st n) + 16 → (Contains st.resting n → ⊥) → (h : Words)
+      → StandsFor st h → MayPlace h st.region word
   may-place address rested h k = record {
     slot = nth_slot st n;
     slot_is = is_slot;
@@ -52,30 +58,37 @@ module _ (st : State) (n : ℕ) (o : Body ℕ) (word : ℕ) (free : (state_at st
   unfolding slot_at
   slot-there = ap (λ s. unwrap_or s (record { region = 0; number = 0 })) is_slot
 
-  pub placed : (worker number elem size : ℕ) (fixed : Bool) → o ≡ record { elem = elem; fixed = fixed; cells = zeros size } → (h : Words) → StandsFor st h
-      → StandsFor (record { region = st.region; states = with_object st.states n o; resting = st.resting }) (next worker number h (Alloc elem size fixed) (Placed word))
+  pub placed : (worker number elem size : ℕ) (fixed : Bool)
+      → o ≡ record { elem = elem; fixed = fixed; cells = zeros size } → (h : Words) → StandsFor st h
+      → StandsFor (record { region = st.region; states = with_object st.states n o; resting = st.resting })
+      (next worker number h (Alloc elem size fixed) (Placed word))
   unfolding next
   placed worker number elem size fixed body h k =
       let made : Object Name ℕ = new_object worker number elem size fixed word in
       let now : State = record { region = st.region; states = with_object st.states n o; resting = st.resting } in
       let changed : ChangesSlot st now made.name.slot (next_object (state_of st made.name.slot) made.body)
       = subst (λ (b : Body ℕ). ChangesSlot st now made.name.slot (next_object (state_of st made.name.slot) b)) body
-      (subst (λ (s : Slot). ChangesSlot st now s (next_object (state_of st s) o)) (sym slot-there) (changed-object st st.resting n o inside)) in
-      stands-made st now h k made (ap (λ s. s.region) slot-there) (ap (λ s. (state_of st s).body) slot-there ∙ free-there)
+      (subst (λ (s : Slot). ChangesSlot st now s (next_object (state_of st s) o)) (sym slot-there)
+      (changed-object st st.resting n o inside)) in
+      stands-made st now h k made (ap (λ s. s.region) slot-there)
+      (ap (λ s. (state_of st s).body) slot-there ∙ free-there)
       (version-there ∙ ap (λ s. 1 + (state_of st s).versions) (sym slot-there)) changed refl
 
 -- the version of an object that was placed
-pub version-after : (st : State) (n : ℕ) (o : Body ℕ) → n ≤ length st.states → (state_at (with_object st.states n o) n).versions ≡ 1 + (state_at st.states n).versions
+pub version-after : (st : State) (n : ℕ) (o : Body ℕ) → n ≤ length st.states
+    → (state_at (with_object st.states n o) n).versions ≡ 1 + (state_at st.states n).versions
 version-after st n o next =
     let now : State = record { region = st.region; states = with_object st.states n o; resting = st.resting } in
     let slot = nth_slot st n in
     sym (ap (λ p. p.versions) (here now n)) ∙ ap (λ p. p.versions) ((changed-object st st.resting n o next).state slot)
-    ∙ ap (λ b. (cond b (next_object (state_of st slot) o) (state_of st slot)).versions) (and_from _ _ (eq-eqb st.region st.region refl) (eq-eqb n n refl))
+    ∙ ap (λ b. (cond b (next_object (state_of st slot) o) (state_of st slot)).versions)
+    (and_from _ _ (eq-eqb st.region st.region refl) (eq-eqb n n refl))
     ∙ ap (λ p. 1 + p.versions) (here st n)
 
 -- where a region is not full, a slot has no live object and does not rest
 pub not-full : (live limit : ℕ) (more : Bool) → ((live == limit) || more) ≡ false → live ≡ limit → ⊥
-not-full live limit more e same = let t : ((live == limit) || more) ≡ true = ap (λ b. b || more) (eq-eqb live limit same) in absurd (false≢true (sym e ∙ t))
+not-full live limit more e same = let t : ((live == limit) || more) ≡ true =
+    ap (λ b. b || more) (eq-eqb live limit same) in absurd (false≢true (sym e ∙ t))
 
 -- a word with a version is not null
 pub has-version : (word : ℕ) → 0 < version_of word → has_version word ≡ true
@@ -90,13 +103,15 @@ placed_in st n elem fixed size = record {
   resting = st.resting;
 }
 
-pub served-placed : (st : State) (n elem size : ℕ) (fixed : Bool) (word : ℕ) → (state_at st.states n).body ≡ None → n ≤ length st.states
+pub served-placed : (st : State) (n elem size : ℕ) (fixed : Bool) (word : ℕ) → (state_at st.states n).body ≡ None
+    → n ≤ length st.states
     → slot_of (address_of word) ≡ Some (nth_slot st n) → version_of word ≡ 1 + (state_at st.states n).versions
     → (now : State) → now ≡ placed_in st n elem fixed size → IsServed st now (Alloc elem size fixed) (Placed word)
 served-placed st n elem size fixed word free inside is_slot version now e =
     let o : Body ℕ = record { elem = elem; fixed = fixed; cells = zeros size } in
     subst (λ (s : State). IsServed st s (Alloc elem size fixed) (Placed word)) (sym e) (record {
-      next = λ worker number h stands. placed st n o word free inside is_slot version worker number elem size fixed refl h stands;
+      next = λ worker number h stands. placed st n o word free inside is_slot version worker number elem size fixed
+          refl h stands;
       suits = λ pieces. has-version word (omega (arith, version));
       elements = λ layouts types known. holds-object (λ o. layouts.has o.elem ≡ true) st.states n o inside types known;
       pieces = λ pieces. holds-object (λ o. HasWholePieces o.cells) st.states n o inside (pieces-zeros size) pieces;

@@ -23,7 +23,8 @@ use Rattle.heap_model.specs.declared.calls.ReportKind.TheVariants.{Free, Null, B
 -- ---- a whole number
 
 -- a load of a whole number
-load_outcome-number : (kind : AccessKind) → is_number kind ≡ true → (n : ℕ) (p : Option ℕ) → load_outcome kind (Some n) p ≡ Gave (Number (sign_extension kind n))
+load_outcome-number : (kind : AccessKind) → is_number kind ≡ true → (n : ℕ) (p : Option ℕ)
+    → load_outcome kind (Some n) p ≡ Gave (Number (sign_extension kind n))
 unfolding load_outcome
 load_outcome-number I8 e n p = refl
 load_outcome-number U8 e n p = refl
@@ -36,10 +37,12 @@ load_outcome-number U64 e n p = refl
 load_outcome-number Ptr e n p = cc
 load_outcome-number Word e n p = cc
 
-pub load-answer : (kind : AccessKind) → is_number kind ≡ true → (cells : List (Cell ℕ)) (n : ℕ) → number_in cells ≡ Some n
+pub load-answer : (kind : AccessKind) → is_number kind ≡ true → (cells : List (Cell ℕ)) (n : ℕ)
+    → number_in cells ≡ Some n
     → reply (outcome_inside kind Loads cells) ≡ Moved (record { bits = sign_extension kind n; pointer = false })
 load-answer kind number cells n is =
-    ap (λ o. reply (load_outcome kind o (pointer_in cells))) is ∙ ap reply (load_outcome-number kind number n (pointer_in cells))
+    ap (λ o. reply (load_outcome kind o (pointer_in cells))) is
+    ∙ ap reply (load_outcome-number kind number n (pointer_in cells))
 
 sign-mod-8 : (b : Bool) (n : ℕ) → n < 2 ^ 8 → cond b (n + 2 ^ 64 - 2 ^ 8) n % 2 ^ 8 ≡ n
 sign-mod-8 true n h = omega arith
@@ -58,7 +61,8 @@ sign-mod-64 true n h = omega arith
 sign-mod-64 false n h = omega arith
 
 -- a number with the copies of its sign has the bytes that it came from
-back : (kind : AccessKind) → is_number kind ≡ true → (n : ℕ) → n < 2 ^ (8 * width kind) → sign_extension kind n % 2 ^ (8 * width kind) ≡ n
+back : (kind : AccessKind) → is_number kind ≡ true → (n : ℕ) → n < 2 ^ (8 * width kind)
+    → sign_extension kind n % 2 ^ (8 * width kind) ≡ n
 unfolding sign_extension
 back I8 e n h = sign-mod-8 (nat_le (2 ^ 8) (2 * n)) n h
 back U8 e n h = omega arith
@@ -71,10 +75,13 @@ back U64 e n h = omega arith
 back Ptr e n h = cc
 back Word e n h = cc
 
-pub gives-sign_extension : (kind : AccessKind) → is_number kind ≡ true → (n : ℕ) → n < 2 ^ (8 * width kind) → can_give kind (sign_extension kind n) ≡ true
+pub gives-sign_extension : (kind : AccessKind) → is_number kind ≡ true → (n : ℕ) → n < 2 ^ (8 * width kind)
+    → can_give kind (sign_extension kind n) ≡ true
 gives-sign_extension kind number n below = go kind number (ap (sign_extension kind) (back kind number n below))
   where
-    go : (kind : AccessKind) → is_number kind ≡ true → sign_extension kind (sign_extension kind n % 2 ^ (8 * width kind)) ≡ sign_extension kind n → can_give kind (sign_extension kind n) ≡ true
+    go : (kind : AccessKind) → is_number kind ≡ true
+        → sign_extension kind (sign_extension kind n % 2 ^ (8 * width kind)) ≡ sign_extension kind n
+        → can_give kind (sign_extension kind n) ≡ true
     go I8 e same = eq-eqb _ _ same
     go U8 e same = eq-eqb _ _ same
     go I16 e same = eq-eqb _ _ same
@@ -87,7 +94,8 @@ gives-sign_extension kind number n below = go kind number (ap (sign_extension ki
     go Word e same = cc
 
 -- where a part of a pointer stands
-load_outcome-none : (kind : AccessKind) → is_number kind ≡ true → (p : Option ℕ) → load_outcome kind None p ≡ Refused PointerBytes
+load_outcome-none : (kind : AccessKind) → is_number kind ≡ true → (p : Option ℕ)
+    → load_outcome kind None p ≡ Refused PointerBytes
 unfolding load_outcome
 load_outcome-none I8 e p = refl
 load_outcome-none U8 e p = refl
@@ -103,15 +111,18 @@ load_outcome-none Word e p = cc
 pub no-number-answer : (kind : AccessKind) → is_number kind ≡ true → (cells : List (Cell ℕ)) → number_in cells ≡ None
     → reply (outcome_inside kind Loads cells) ≡ Report PointerBytes
 no-number-answer kind number cells is =
-    ap (λ o. reply (load_outcome kind o (pointer_in cells))) is ∙ ap reply (load_outcome-none kind number (pointer_in cells))
+    ap (λ o. reply (load_outcome kind o (pointer_in cells))) is
+    ∙ ap reply (load_outcome-none kind number (pointer_in cells))
 
 -- an addition gives what a load gives of the number
-pub add-answer : (kind : AccessKind) → is_number kind ≡ true → (n : ℕ) (cells : List (Cell ℕ)) (old : ℕ) → number_in cells ≡ Some old
+pub add-answer : (kind : AccessKind) → is_number kind ≡ true → (n : ℕ) (cells : List (Cell ℕ)) (old : ℕ)
+    → number_in cells ≡ Some old
     → reply (outcome_inside kind (Adds n) cells) ≡ Moved (record { bits = sign_extension kind old; pointer = false })
 add-answer kind number n cells old is =
     ap (λ o. reply (load_outcome kind o None)) is ∙ ap reply (load_outcome-number kind number old None)
 
-pub no-add-answer : (kind : AccessKind) → is_number kind ≡ true → (n : ℕ) (cells : List (Cell ℕ)) → number_in cells ≡ None
+pub no-add-answer : (kind : AccessKind) → is_number kind ≡ true → (n : ℕ) (cells : List (Cell ℕ))
+    → number_in cells ≡ None
     → reply (outcome_inside kind (Adds n) cells) ≡ Report PointerBytes
 no-add-answer kind number n cells is =
     ap (λ o. reply (load_outcome kind o None)) is ∙ ap reply (load_outcome-none kind number None)
@@ -158,11 +169,15 @@ by-parts : (kind : AccessKind) (cells : List (Cell ℕ)) (n p : Option ℕ) → 
 by-parts kind cells n p e f = λ i. reply (load_outcome kind (e i) (f i))
 
 module _ (v : held.Value) (below : v.bits < 2 ^ 64) (cells : List (Cell ℕ)) (is : cells ≡ value_cells v) where
-  marked : (kind : AccessKind) → v.pointer ≡ true → reply (outcome_inside kind Loads cells) ≡ reply (load_outcome kind None (Some v.bits))
-  marked kind e = by-parts kind cells None (Some v.bits) (ap number_in is ∙ number-marked v e) (ap pointer_in is ∙ pointer-marked v e)
+  marked : (kind : AccessKind) → v.pointer ≡ true
+      → reply (outcome_inside kind Loads cells) ≡ reply (load_outcome kind None (Some v.bits))
+  marked kind e = by-parts kind cells None (Some v.bits) (ap number_in is ∙ number-marked v e)
+      (ap pointer_in is ∙ pointer-marked v e)
 
-  unmarked : (kind : AccessKind) → v.pointer ≡ false → reply (outcome_inside kind Loads cells) ≡ reply (load_outcome kind (Some v.bits) None)
-  unmarked kind e = by-parts kind cells (Some v.bits) None (ap number_in is ∙ number-plain v e below) (ap pointer_in is ∙ pointer-plain v e)
+  unmarked : (kind : AccessKind) → v.pointer ≡ false
+      → reply (outcome_inside kind Loads cells) ≡ reply (load_outcome kind (Some v.bits) None)
+  unmarked kind e = by-parts kind cells (Some v.bits) None (ap number_in is ∙ number-plain v e below)
+      (ap pointer_in is ∙ pointer-plain v e)
 
   pub word-answer : Moved (as_value v) ≡ reply (outcome_inside Word Loads cells)
   unfolding load_outcome
@@ -180,7 +195,8 @@ module _ (v : held.Value) (below : v.bits < 2 ^ 64) (cells : List (Cell ℕ)) (i
       (λ i. Moved (record { bits = both.1 i; pointer = both.0 i }))
       ∙ sym (unmarked Ptr both.0 ∙ ap (λ n. reply (load_outcome Ptr (Some n) None)) both.1)
 
-  pub no-pointer-answer : v.pointer ≡ false → (v.bits ≡ 0 → ⊥) → Report NotPointer ≡ reply (outcome_inside Ptr Loads cells)
+  pub no-pointer-answer : v.pointer ≡ false → (v.bits ≡ 0 → ⊥)
+      → Report NotPointer ≡ reply (outcome_inside Ptr Loads cells)
   unfolding load_outcome
   no-pointer-answer e apart = some v.bits apart ∙ sym (unmarked Ptr e)
     where
@@ -205,7 +221,8 @@ module _ (v : held.Value) (below : v.bits < 2 ^ 64) (cells : List (Cell ℕ)) (i
         go cs f (all_bytes all) = absurd (no cs (f ∙ part-of true e) all)
           where
             no : (cs : List (Cell ℕ)) → cs ≡ parts v.bits → AllByRecursion IsByte cs → ⊥
-            no cs g all = let none : AllByRecursion IsByte (parts v.bits) = subst (AllByRecursion IsByte) g all in none.0
+            no cs g all = let none : AllByRecursion IsByte (parts v.bits) =
+                subst (AllByRecursion IsByte) g all in none.0
         go cs f (one_pointer word version g) =
             subst (λ (w : ℕ). 1 ≤ version_of w) (same-part word (sym g ∙ f ∙ part-of true e)) version
 
@@ -217,7 +234,8 @@ module _ (v : held.Value) (below : v.bits < 2 ^ 64) (cells : List (Cell ℕ)) (i
         go true e = lt-ltb _ _ (versioned e)
         go false e = let same : v.bits % 2 ^ 64 ≡ v.bits = omega (arith, below) in eq-eqb _ _ same
 
-    pub pointer-suits : (v.pointer ≡ true) ⊎ ((v.pointer ≡ false) × (v.bits ≡ 0)) → suits_load Ptr (Moved (as_value v)) ≡ true
+    pub pointer-suits : (v.pointer ≡ true) ⊎ ((v.pointer ≡ false) × (v.bits ≡ 0))
+        → suits_load Ptr (Moved (as_value v)) ≡ true
     pointer-suits (inl e) =
         ap (λ b. suits_load Ptr (Moved (record { bits = v.bits; pointer = b }))) e ∙ lt-ltb _ _ (versioned e)
     pointer-suits (inr both) =
@@ -230,14 +248,16 @@ whole-here k cells pieces aligned =
 
 -- ---- reports
 
-pub load-report-suits : (kind : AccessKind) (report : ReportKind) → is_access_report report ≡ true → suits_load kind (Report report) ≡ true
+pub load-report-suits : (kind : AccessKind) (report : ReportKind) → is_access_report report ≡ true
+    → suits_load kind (Report report) ≡ true
 load-report-suits kind Null is = refl
 load-report-suits kind Free is = refl
 load-report-suits kind Bounds is = refl
 load-report-suits kind Align is = refl
 load-report-suits kind _ is = cc
 
-pub add-report-suits : (kind : AccessKind) (report : ReportKind) → is_access_report report ≡ true → suits_add kind (Report report) ≡ true
+pub add-report-suits : (kind : AccessKind) (report : ReportKind) → is_access_report report ≡ true
+    → suits_add kind (Report report) ≡ true
 add-report-suits kind Null is = refl
 add-report-suits kind Free is = refl
 add-report-suits kind Bounds is = refl

@@ -53,11 +53,14 @@ load-next p reach kind worker number h reply = refl
 
 -- ---- what is known after a call that may be out of memory
 
-module _ {E : Type 0} (r : Result Reply E) (st now : State) (call : Call) (served : IfOk r (λ reply. IsServed st now call reply)) (unchanged : OnErr r (now ≡ st)) where
-  pub elements-after : (layouts : Layouts) → knows_types layouts call ≡ true → KnowsElements layouts st → KnowsElements layouts now
+module _ {E : Type 0} (r : Result Reply E) (st now : State) (call : Call)
+    (served : IfOk r (λ reply. IsServed st now call reply)) (unchanged : OnErr r (now ≡ st)) where
+  pub elements-after : (layouts : Layouts) → knows_types layouts call ≡ true → KnowsElements layouts st
+      → KnowsElements layouts now
   elements-after layouts types known = go r served unchanged
     where
-      go : (r : Result Reply E) → IfOk r (λ reply. IsServed st now call reply) → OnErr r (now ≡ st) → KnowsElements layouts now
+      go : (r : Result Reply E) → IfOk r (λ reply. IsServed st now call reply) → OnErr r (now ≡ st)
+          → KnowsElements layouts now
       go (Ok reply) s u = s.elements layouts types known
       go (Err error) s u = subst (λ (s : State). KnowsElements layouts s) (sym u) known
 

@@ -40,7 +40,8 @@ module _ (kind : AccessKind) (k : ℕ) (v : Value) (cells : List (Cell ℕ)) whe
   unfolding value_cells cells_after_store
   stored-pointer e = sym (ap (λ b. cells_after_store kind k (cond b (Pointer v.bits) (Number v.bits)) cells) e)
 
-  pub stored-number : v.pointer ≡ false → after_store k (width kind) v.bits cells ≡ cells_after_store kind k (datum v) cells
+  pub stored-number : v.pointer ≡ false → after_store k (width kind) v.bits cells ≡ cells_after_store kind k
+      (datum v) cells
   unfolding after_store cells_after_store
   stored-number e = sym (ap (λ b. cells_after_store kind k (cond b (Pointer v.bits) (Number v.bits)) cells) e)
 
@@ -146,15 +147,21 @@ module _ (st : State) (p : ℕ) (reach : Reach) (kind : AccessKind) (n k : ℕ) 
   access-stands act h stands =
       let o = at.named.object in
       let slot = nth_slot st n in
-      let changed : ChangesSlot st (left act) slot (with_cells_of (state_of st slot) o (access_cells (offset reach.lo p) kind act o.cells)) =
-      subst (λ (j : ℕ). ChangesSlot st (left act) slot (with_cells_of (state_of st slot) o (access_cells j kind act o.cells))) at.offset_is
-      (subst (λ (q : SlotState). ChangesSlot st (left act) slot (with_cells_of q o (access_cells k kind act o.cells))) (sym (here st n))
-      (changed-set st st.resting n (with_cells_of (state_at st.states n) o (access_cells k kind act o.cells)) at.named.at.taken)) in
+      let changed : ChangesSlot st (left act) slot
+      (with_cells_of (state_of st slot) o (access_cells (offset reach.lo p) kind act o.cells)) =
+      subst (λ (j : ℕ). ChangesSlot st (left act) slot
+      (with_cells_of (state_of st slot) o (access_cells j kind act o.cells))) at.offset_is
+      (subst (λ (q : SlotState). ChangesSlot st (left act) slot (with_cells_of q o (access_cells k kind act o.cells)))
+      (sym (here st n))
+      (changed-set st st.resting n (with_cells_of (state_at st.states n) o (access_cells k kind act o.cells))
+      at.named.at.taken)) in
       let found : live_at (state_of st slot) (version_of p) ≡ Some o =
       ap (λ q. live_at q (version_of p)) (here st n)
       ∙ ap (λ b. cond b (state_at st.states n).body None) (eq-eqb _ _ at.named.version) ∙ at.named.body in
-      subst (λ (s : Option Slot). StandsFor (left act) (with_cells (is_at s (version_of p)) (access_cells (offset reach.lo p) kind act) h)) (sym at.named.at.slot)
-      (stands-cells st (left act) h stands slot refl (version_of p) o found (access_cells (offset reach.lo p) kind act) changed refl)
+      subst (λ (s : Option Slot). StandsFor (left act)
+      (with_cells (is_at s (version_of p)) (access_cells (offset reach.lo p) kind act) h)) (sym at.named.at.slot)
+      (stands-cells st (left act) h stands slot refl (version_of p) o found
+      (access_cells (offset reach.lo p) kind act) changed refl)
 
   pub served-store : (v : Value) → may_store kind v ≡ true → (now : State)
       → now ≡ with_cells_in st n at.named.object (cells_after_store kind k (datum v) at.named.object.cells)
@@ -167,9 +174,11 @@ module _ (st : State) (p : ℕ) (reach : Reach) (kind : AccessKind) (n k : ℕ) 
       subst (λ (s : State). IsServed st s (Store p reach kind v) Done) (sym e) (record {
         next = λ worker number h stands. access-stands (Stores (datum v)) h stands;
         suits = λ pieces. refl;
-        elements = λ layouts types known. holds-cells (λ o. layouts.has o.elem ≡ true) st.states n o written at.named.at.taken (known n o at.named.body) known;
+        elements = λ layouts types known. holds-cells
+            (λ o. layouts.has o.elem ≡ true) st.states n o written at.named.at.taken (known n o at.named.body) known;
         pieces = λ pieces. holds-cells (λ o. HasWholePieces o.cells) st.states n o written at.named.at.taken
-            (stored-pieces kind k v o.cells fits (pieces n o at.named.body) place.aligned (within st p reach kind n k at)) pieces;
+            (stored-pieces kind k v o.cells fits (pieces n o at.named.body) place.aligned
+            (within st p reach kind n k at)) pieces;
         region = refl;
       })
 
@@ -183,7 +192,8 @@ module _ (st : State) (p : ℕ) (reach : Reach) (kind : AccessKind) (n k : ℕ) 
       subst (λ (s : State). IsServed st s (Add p reach kind value) (Moved v)) (sym e) (record {
         next = λ worker number h stands. access-stands (Adds value) h stands;
         suits = λ pieces. suits;
-        elements = λ layouts types known. holds-cells (λ o. layouts.has o.elem ≡ true) st.states n o written at.named.at.taken (known n o at.named.body) known;
+        elements = λ layouts types known. holds-cells
+            (λ o. layouts.has o.elem ≡ true) st.states n o written at.named.at.taken (known n o at.named.body) known;
         pieces = λ pieces. holds-cells (λ o. HasWholePieces o.cells) st.states n o written at.named.at.taken
             (pieces-add kind k value o.cells (pieces n o at.named.body) place.aligned) pieces;
         region = refl;

@@ -55,7 +55,8 @@ pub record IsAccess (st : State) (p : ℕ) (reach : Reach) (kind : AccessKind) (
   pub facts : Facts
   pub named : NamesLive st reach.lo p n facts
   pub offset_is : k ≡ offset reach.lo p
-  pub placed : access_report (is_inside reach (address_of p) (width kind)) k (width kind) (length named.object.cells) ≡ None
+  pub placed : access_report (is_inside reach (address_of p) (width kind)) k (width kind)
+      (length named.object.cells) ≡ None
 
 -- Where an access of this kind may be made, whoever asks for it: at this offset of the live object of a slot.
 pub record IsPlace (st : State) (n k : ℕ) (kind : AccessKind) : Type 0 where
@@ -65,4 +66,5 @@ pub record IsPlace (st : State) (n k : ℕ) (kind : AccessKind) : Type 0 where
 
 -- An access of this kind may not be made, and gets this report, whatever it does.
 abbrev pub GetsReport : State → ℕ → Reach → AccessKind → ReportKind → Type 0
-GetsReport st p reach kind report = ((act : Act ℕ) → access (live_by st) p reach kind act ≡ Report report) × (is_access_report report ≡ true)
+GetsReport st p reach kind report = ((act : Act ℕ) → access (live_by st) p reach kind act ≡ Report report) ×
+    (is_access_report report ≡ true)

@@ -24,7 +24,8 @@ HasPieces st = (n : ℕ) (o : Body ℕ) → (state_at st.states n).body ≡ Some
 pub record IsServed (st now : State) (call : Call) (reply : Reply) : Type 0 where
   pub next : (worker number : ℕ) (h : Words) → StandsFor st h → StandsFor now (next worker number h call reply)
   pub suits : HasPieces st → suits_call call reply ≡ true
-  pub elements : (layouts : Layouts) → knows_types layouts call ≡ true → KnowsElements layouts st → KnowsElements layouts now
+  pub elements : (layouts : Layouts) → knows_types layouts call ≡ true → KnowsElements layouts st
+      → KnowsElements layouts now
   pub pieces : HasPieces st → HasPieces now
   pub region : now.region ≡ st.region
 

@@ -30,17 +30,23 @@ fn number_at(slots: &Slots, at: Location, kind: AccessKind) -> Reply
     }
 }
 
+/// Eight bytes with their mark, as a reply.
+fn marked(word: slot_headers::Value) -> Reply
+    ensures { result ≡ Reply.Value (record { bits = word.bits; pointer = word.pointer }) }
+{
+    Reply::Value(Value {
+        bits: word.bits,
+        pointer: word.pointer,
+    })
+}
+
 /// The eight bytes at a place, with their mark.
 fn word_at(slots: &Slots, at: Location) -> Reply
     requires { IsPlace slots.now at.slot at.offset AccessKind.Word }
     ensures answer { OfObject slots.now at.slot (λ o. result ≡ reply (outcome_inside AccessKind.Word Loads (cells_at at.offset 8 o.cells))) }
     ensures suits { HasPieces slots.now → suits_load AccessKind.Word result ≡ true }
 {
-    let word = slots.load_word(at.slot, at.offset);
-    Reply::Value(Value {
-        bits: word.bits,
-        pointer: word.pointer,
-    })
+    marked(slots.load_word(at.slot, at.offset))
 }
 
 /// The pointer that stands at a place, and null for eight zero bytes.
@@ -51,10 +57,7 @@ fn pointer_at(slots: &Slots, at: Location) -> Reply
 {
     let word = slots.load_word(at.slot, at.offset);
     if word.pointer || word.bits == 0 {
-        Reply::Value(Value {
-            bits: word.bits,
-            pointer: word.pointer,
-        })
+        marked(word)
     } else {
         Reply::Report(ReportKind::NotPointer)
     }

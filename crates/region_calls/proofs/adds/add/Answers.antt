@@ -16,25 +16,31 @@ use Rattle.region_calls.proofs.adds.add.Goals as goal
 use Rattle.region_calls.proofs.adds.add.Goals.{In-Ok, After-sign_extension}
 
 place : (c : In-Ok) → IsPlace c.args.slots.now c.in-Ok.at.slot c.in-Ok.at.offset c.args.kind
-place c = place-of c.args.slots.now c.args.p c.args.reach.now c.args.kind c.in-Ok.at.slot c.in-Ok.at.offset c.in-Ok.ensures
+place c = place-of c.args.slots.now c.args.p c.args.reach.now c.args.kind c.in-Ok.at.slot c.in-Ok.at.offset
+    c.in-Ok.ensures
 
 aligned-by : (c : In-Ok) (w : ℕ) → w ≡ width c.args.kind → c.in-Ok.at.offset % w ≡ 0
 aligned-by c w e = subst (λ (v : ℕ). c.in-Ok.at.offset % v ≡ 0) (sym e) (place c).aligned
 
 pub load-requires-clause-aligned : goal.load-requires-clause-aligned
-load-requires-clause-aligned c = aligned-by (goal.at.load-requires-clause-aligned c).In-Ok c.width_of-width.result c.width_of-width.ensures
+load-requires-clause-aligned c = aligned-by
+    (goal.at.load-requires-clause-aligned c).In-Ok c.width_of-width.result c.width_of-width.ensures
 
 pub load-requires-clause-inside : goal.load-requires-clause-inside
-load-requires-clause-inside c = λ o e. omega (arith, (place (goal.at.load-requires-clause-inside c).In-Ok).inside o e, c.width_of-width.ensures)
+load-requires-clause-inside c = λ o e. omega
+    (arith, (place (goal.at.load-requires-clause-inside c).In-Ok).inside o e, c.width_of-width.ensures)
 
 pub store-requires-clause-aligned : goal.store-requires-clause-aligned
-store-requires-clause-aligned c = aligned-by (goal.at.store-requires-clause-aligned c).In-Ok c.width_of-width.result c.width_of-width.ensures
+store-requires-clause-aligned c = aligned-by
+    (goal.at.store-requires-clause-aligned c).In-Ok c.width_of-width.result c.width_of-width.ensures
 
 pub store-requires-clause-inside : goal.store-requires-clause-inside
-store-requires-clause-inside c = λ o e. omega (arith, (place (goal.at.store-requires-clause-inside c).In-Ok).inside o e, c.width_of-width.ensures)
+store-requires-clause-inside c = λ o e. omega
+    (arith, (place (goal.at.store-requires-clause-inside c).In-Ok).inside o e, c.width_of-width.ensures)
 
 -- the number that stands there
-stands : (c : After-sign_extension) → number_in (cells_at c.in-Ok.at.offset (width c.args.kind) c.in-Ok.ensures.named.object.cells) ≡ Some c.in-Some.number
+stands : (c : After-sign_extension) → number_in
+    (cells_at c.in-Ok.at.offset (width c.args.kind) c.in-Ok.ensures.named.object.cells) ≡ Some c.in-Some.number
 stands c =
     let o = c.in-Ok.ensures.named.object in
     ap (λ w. number_in (cells_at c.in-Ok.at.offset w o.cells)) (sym c.width_of-width.ensures)
@@ -44,8 +50,11 @@ pub returns-in-Some-clause-answer : goal.returns-in-Some-clause-answer
 returns-in-Some-clause-answer c =
     let at = c.in-Ok.ensures in
     ap (λ bits. Moved (record { bits = bits; pointer = false })) c.sign_extension.ensures
-    ∙ sym (add-answer c.args.kind c.requires.number c.args.value (cells_at c.in-Ok.at.offset (width c.args.kind) at.named.object.cells) c.in-Some.number (stands (goal.at.returns-in-Some-clause-answer c).After-sign_extension))
-    ∙ sym (answered c.args.slots.now c.args.p c.args.reach.now c.args.kind c.in-Ok.at.slot c.in-Ok.at.offset at (Adds c.args.value))
+    ∙ sym (add-answer c.args.kind c.requires.number c.args.value
+    (cells_at c.in-Ok.at.offset (width c.args.kind) at.named.object.cells) c.in-Some.number
+    (stands (goal.at.returns-in-Some-clause-answer c).After-sign_extension))
+    ∙ sym (answered c.args.slots.now c.args.p c.args.reach.now c.args.kind c.in-Ok.at.slot c.in-Ok.at.offset at
+    (Adds c.args.value))
 
 pub returns-in-Some-clause-served : goal.returns-in-Some-clause-served
 returns-in-Some-clause-served c =
@@ -59,10 +68,14 @@ returns-in-Some-clause-served c =
     let suits : suits_add c.args.kind (Moved (record { bits = c.sign_extension.result; pointer = false })) ≡ true =
     ap (λ bits. suits_add c.args.kind (Moved (record { bits = bits; pointer = false }))) c.sign_extension.ensures
     ∙ gives-sign_extension c.args.kind c.requires.number c.in-Some.number below in
-    served-add st c.args.p c.args.reach.now c.args.kind n k at c.args.value (record { bits = c.sign_extension.result; pointer = false }) suits c.store.new.self
+    served-add st c.args.p c.args.reach.now c.args.kind n k at c.args.value
+    (record { bits = c.sign_extension.result; pointer = false }) suits c.store.new.self
     (c.store.ensures o at.named.body
-    ∙ (λ i. with_cells_in st n o (after_store k (c.width_of-width.ensures i) ((c.in-Some.number + c.args.value) % 2 ^ 64) o.cells))
-    ∙ ap (with_cells_in st n o) (added-cells c.args.kind k c.in-Some.number o.cells (c.requires.pieces n o at.named.body) (place (goal.at.returns-in-Some-clause-served c).In-Ok).aligned
+    ∙ (λ i. with_cells_in st n o
+    (after_store k (c.width_of-width.ensures i) ((c.in-Some.number + c.args.value) % 2 ^ 64) o.cells))
+    ∙ ap (with_cells_in st n o)
+    (added-cells c.args.kind k c.in-Some.number o.cells (c.requires.pieces n o at.named.body)
+    (place (goal.at.returns-in-Some-clause-served c).In-Ok).aligned
     (stands (goal.at.returns-in-Some-clause-served c).After-sign_extension) c.args.value))
 
 pub returns-in-None-clause-answer : goal.returns-in-None-clause-answer
@@ -72,8 +85,10 @@ returns-in-None-clause-answer c =
     let none : number_in (cells_at c.in-Ok.at.offset (width c.args.kind) o.cells) ≡ None =
     ap (λ w. number_in (cells_at c.in-Ok.at.offset w o.cells)) (sym c.width_of-width.ensures)
     ∙ sym (c.load.ensures.value o at.named.body) ∙ c.in-None.is in
-    sym (no-add-answer c.args.kind c.requires.number c.args.value (cells_at c.in-Ok.at.offset (width c.args.kind) o.cells) none)
-    ∙ sym (answered c.args.slots.now c.args.p c.args.reach.now c.args.kind c.in-Ok.at.slot c.in-Ok.at.offset at (Adds c.args.value))
+    sym (no-add-answer c.args.kind c.requires.number c.args.value
+    (cells_at c.in-Ok.at.offset (width c.args.kind) o.cells) none)
+    ∙ sym (answered c.args.slots.now c.args.p c.args.reach.now c.args.kind c.in-Ok.at.slot c.in-Ok.at.offset at
+    (Adds c.args.value))
 
 pub returns-in-None-clause-served : goal.returns-in-None-clause-served
 returns-in-None-clause-served c =

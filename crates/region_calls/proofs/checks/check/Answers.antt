@@ -39,12 +39,17 @@ bounds_at-requires-clause-size c =
 
 pub returns-then-version-eq0-clause-answer : goal.returns-then-version-eq0-clause-answer
 returns-then-version-eq0-clause-answer c =
-    check-null (layouts_of c.args.table.now) (live_by c.args.slots.now) (dead_by c.args.slots.now) c.args.p c.args.want (eq-eqb _ _ (sym c.parts-address.ensures.version ∙ c.if-version-eq0.true))
+    check-null (layouts_of c.args.table.now) (live_by c.args.slots.now)
+    (dead_by c.args.slots.now) c.args.p c.args.want
+    (eq-eqb _ _ (sym c.parts-address.ensures.version ∙ c.if-version-eq0.true))
 
 pub returns-in_default : goal.returns-in_default
 returns-in_default c = record {
-  answer = check-at (layouts_of c.args.table.now) (live_by c.args.slots.now) (dead_by c.args.slots.now) c.args.p c.args.want (not_null (goal.at.returns-in_default c).Else-version-eq0) None
-      (ap (λ a. live_by c.args.slots.now a c.args.p) (sym c.parts-address.ensures.address) ∙ not-live c.args.slots.now c.parts-address.result.0 c.args.p c.object_named.result c.object_named.ensures c.in_default.not-Live);
+  answer = check-at (layouts_of c.args.table.now) (live_by c.args.slots.now)
+      (dead_by c.args.slots.now) c.args.p c.args.want (not_null (goal.at.returns-in_default c).Else-version-eq0) None
+      (ap (λ a. live_by c.args.slots.now a c.args.p) (sym c.parts-address.ensures.address)
+      ∙ not-live c.args.slots.now c.parts-address.result.0 c.args.p c.object_named.result c.object_named.ensures
+      c.in_default.not-Live);
   suits = refl;
 }
 
@@ -53,10 +58,16 @@ returns-clause-answer c =
     let st = c.args.slots.now in
     let named = c.in-Live.ensures in
     let first : object_address (nth_slot st c.in-Live.slot) ≡ first_byte (address_of c.args.p) =
-    sym (first-here st c.parts-address.result.0 c.in-Live.slot named.at) ∙ ap first_byte c.parts-address.ensures.address in
+    sym (first-here st c.parts-address.result.0 c.in-Live.slot named.at)
+    ∙ ap first_byte c.parts-address.ensures.address in
     let far : c.offset_in_slot-offset.result ≡ offset (address_of c.args.p) c.args.p =
-    c.offset_in_slot-offset.ensures.value ∙ sym (offset-here st c.parts-address.result.0 c.in-Live.slot named.at c.args.p) ∙ ap (λ a. offset a c.args.p) c.parts-address.ensures.address in
+    c.offset_in_slot-offset.ensures.value ∙ sym
+    (offset-here st c.parts-address.result.0 c.in-Live.slot named.at c.args.p)
+    ∙ ap (λ a. offset a c.args.p) c.parts-address.ensures.address in
     c.bounds_at.ensures.value
-    ∙ (λ i. found_reply (first i) ((layouts_of c.args.table.now).preferred (named.known i).elem (named.known i).size (far i) c.args.want))
-    ∙ check-at (layouts_of c.args.table.now) (live_by st) (dead_by st) c.args.p c.args.want (not_null (goal.at.returns-clause-answer c).Else-version-eq0) (Some named.object)
-    (ap (λ a. live_by st a c.args.p) (sym c.parts-address.ensures.address) ∙ live-named st c.parts-address.result.0 c.args.p c.in-Live.slot c.in-Live.facts named)
+    ∙ (λ i. found_reply (first i)
+    ((layouts_of c.args.table.now).preferred (named.known i).elem (named.known i).size (far i) c.args.want))
+    ∙ check-at (layouts_of c.args.table.now) (live_by st) (dead_by st) c.args.p c.args.want
+    (not_null (goal.at.returns-clause-answer c).Else-version-eq0) (Some named.object)
+    (ap (λ a. live_by st a c.args.p) (sym c.parts-address.ensures.address)
+    ∙ live-named st c.parts-address.result.0 c.args.p c.in-Live.slot c.in-Live.facts named)

@@ -21,22 +21,26 @@ pub free_of_live-requires-clause-version : goal.free_of_live-requires-clause-ver
 free_of_live-requires-clause-version c = not_null (goal.at.free_of_live-requires-clause-version c).Else-version-eq0
 
 pub returns-then-p-eq0-clause-answer : goal.returns-then-p-eq0-clause-answer
-returns-then-p-eq0-clause-answer c = λ layouts. free-zero layouts (live_by c.args.slots.now) (dead_by c.args.slots.now) c.args.p c.args.fixed c.if-p-eq0.true
+returns-then-p-eq0-clause-answer c = λ layouts.
+    free-zero layouts (live_by c.args.slots.now) (dead_by c.args.slots.now) c.args.p c.args.fixed c.if-p-eq0.true
 
 pub returns-then-p-eq0-clause-served : goal.returns-then-p-eq0-clause-served
 returns-then-p-eq0-clause-served c = served-null c.args.slots.now c.args.p c.args.fixed c.if-p-eq0.true
 
 pub returns-then-version-eq0-clause-answer : goal.returns-then-version-eq0-clause-answer
 returns-then-version-eq0-clause-answer c = λ layouts.
-    free-null layouts (live_by c.args.slots.now) (dead_by c.args.slots.now) c.args.p c.args.fixed c.if-p-eq0.false (eq-eqb _ _ (sym c.parts-address.ensures.version ∙ c.if-version-eq0.true))
+    free-null layouts (live_by c.args.slots.now) (dead_by c.args.slots.now) c.args.p c.args.fixed c.if-p-eq0.false
+    (eq-eqb _ _ (sym c.parts-address.ensures.version ∙ c.if-version-eq0.true))
 
 pub returns-then-version-eq0-clause-served : goal.returns-then-version-eq0-clause-served
 returns-then-version-eq0-clause-served c = served-report c.args.slots.now (Free c.args.p c.args.fixed) BadFree refl
 
 pub returns-in-Nothing-clause-answer : goal.returns-in-Nothing-clause-answer
 returns-in-Nothing-clause-answer c = λ layouts.
-    free-at layouts (live_by c.args.slots.now) (dead_by c.args.slots.now) c.args.p c.args.fixed c.if-p-eq0.false (not_null (goal.at.returns-in-Nothing-clause-answer c).Else-version-eq0) None false
-    (ap (λ a. live_by c.args.slots.now a c.args.p) (sym c.parts-address.ensures.address) ∙ c.in-Nothing.ensures.live) (ap (λ a. dead_by c.args.slots.now a c.args.p) (sym c.parts-address.ensures.address) ∙ c.in-Nothing.ensures.dead)
+    free-at layouts (live_by c.args.slots.now) (dead_by c.args.slots.now) c.args.p c.args.fixed c.if-p-eq0.false
+    (not_null (goal.at.returns-in-Nothing-clause-answer c).Else-version-eq0) None false
+    (ap (λ a. live_by c.args.slots.now a c.args.p) (sym c.parts-address.ensures.address) ∙ c.in-Nothing.ensures.live)
+    (ap (λ a. dead_by c.args.slots.now a c.args.p) (sym c.parts-address.ensures.address) ∙ c.in-Nothing.ensures.dead)
 
 pub returns-in-Nothing-clause-served : goal.returns-in-Nothing-clause-served
 returns-in-Nothing-clause-served c = served-report c.args.slots.now (Free c.args.p c.args.fixed) DoubleFree refl
@@ -44,15 +48,21 @@ returns-in-Nothing-clause-served c = served-report c.args.slots.now (Free c.args
 pub returns-in-Dead-clause-answer : goal.returns-in-Dead-clause-answer
 returns-in-Dead-clause-answer c = λ layouts.
     c.free_of_dead.ensures.answer c.args.fixed
-    ∙ free-at layouts (live_by c.args.slots.now) (dead_by c.args.slots.now) c.args.p c.args.fixed c.if-p-eq0.false (not_null (goal.at.returns-in-Dead-clause-answer c).Else-version-eq0) None true
-    (ap (λ a. live_by c.args.slots.now a c.args.p) (sym c.parts-address.ensures.address) ∙ c.in-Dead.ensures.live) (ap (λ a. dead_by c.args.slots.now a c.args.p) (sym c.parts-address.ensures.address) ∙ c.in-Dead.ensures.dead)
+    ∙ free-at layouts (live_by c.args.slots.now) (dead_by c.args.slots.now) c.args.p c.args.fixed c.if-p-eq0.false
+    (not_null (goal.at.returns-in-Dead-clause-answer c).Else-version-eq0) None true
+    (ap (λ a. live_by c.args.slots.now a c.args.p) (sym c.parts-address.ensures.address) ∙ c.in-Dead.ensures.live)
+    (ap (λ a. dead_by c.args.slots.now a c.args.p) (sym c.parts-address.ensures.address) ∙ c.in-Dead.ensures.dead)
 
 pub returns-in-Dead-clause-served : goal.returns-in-Dead-clause-served
-returns-in-Dead-clause-served c = served-report c.args.slots.now (Free c.args.p c.args.fixed) c.free_of_dead.result c.free_of_dead.ensures.suits
+returns-in-Dead-clause-served c = served-report c.args.slots.now
+    (Free c.args.p c.args.fixed) c.free_of_dead.result c.free_of_dead.ensures.suits
 
 pub returns-in-Live-clause-answer : goal.returns-in-Live-clause-answer
 returns-in-Live-clause-answer c = λ layouts.
     c.free_of_live.ensures.answer (dead_by c.args.slots.now (address_of c.args.p) c.args.p)
-    ∙ free-at layouts (live_by c.args.slots.now) (dead_by c.args.slots.now) c.args.p c.args.fixed c.if-p-eq0.false (not_null (goal.at.returns-in-Live-clause-answer c).Else-version-eq0)
+    ∙ free-at layouts (live_by c.args.slots.now) (dead_by c.args.slots.now) c.args.p c.args.fixed c.if-p-eq0.false
+    (not_null (goal.at.returns-in-Live-clause-answer c).Else-version-eq0)
     (state_at c.args.slots.now.states c.in-Live.slot).body (dead_by c.args.slots.now (address_of c.args.p) c.args.p)
-    (ap (λ a. live_by c.args.slots.now a c.args.p) (sym c.parts-address.ensures.address) ∙ live-named c.args.slots.now c.parts-address.result.0 c.args.p c.in-Live.slot c.in-Live.facts c.in-Live.ensures ∙ sym c.in-Live.ensures.body) refl
+    (ap (λ a. live_by c.args.slots.now a c.args.p) (sym c.parts-address.ensures.address)
+    ∙ live-named c.args.slots.now c.parts-address.result.0 c.args.p c.in-Live.slot c.in-Live.facts c.in-Live.ensures
+    ∙ sym c.in-Live.ensures.body) refl

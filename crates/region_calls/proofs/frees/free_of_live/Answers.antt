@@ -15,12 +15,15 @@ use Rattle.region_calls.proofs.frees.free_of_live.Goals as goal
 pub returns-then-offset_in_slot-ne0-clause-answer : goal.returns-then-offset_in_slot-ne0-clause-answer
 returns-then-offset_in_slot-ne0-clause-answer c = λ dead.
     let named = c.requires.named in
-    let far = c.offset_in_slot.ensures.value ∙ sym (offset-here c.args.slots.now (address_of c.args.p) c.args.slot named.at c.args.p) in
-    live-inside (offset (address_of c.args.p) c.args.p) c.args.fixed dead (state_at c.args.slots.now.states c.args.slot).body named.object named.body
+    let far = c.offset_in_slot.ensures.value ∙ sym
+    (offset-here c.args.slots.now (address_of c.args.p) c.args.slot named.at c.args.p) in
+    live-inside (offset (address_of c.args.p) c.args.p) c.args.fixed dead
+    (state_at c.args.slots.now.states c.args.slot).body named.object named.body
     (λ e. c.if-offset_in_slot-ne0.true (far ∙ e))
 
 pub returns-then-offset_in_slot-ne0-clause-served : goal.returns-then-offset_in_slot-ne0-clause-served
-returns-then-offset_in_slot-ne0-clause-served c = served-report c.args.slots.now (Free c.args.p c.args.fixed) BadFree refl
+returns-then-offset_in_slot-ne0-clause-served c =
+    served-report c.args.slots.now (Free c.args.p c.args.fixed) BadFree refl
 
 pub returns-then-facts-fixed-clause-served : goal.returns-then-facts-fixed-clause-served
 returns-then-facts-fixed-clause-served c = served-report c.args.slots.now (Free c.args.p c.args.fixed) BadFree refl
@@ -28,8 +31,10 @@ returns-then-facts-fixed-clause-served c = served-report c.args.slots.now (Free 
 pub returns-clause-answer : goal.returns-clause-answer
 returns-clause-answer c = λ dead.
     let named = c.requires.named in
-    let far = c.offset_in_slot.ensures.value ∙ sym (offset-here c.args.slots.now (address_of c.args.p) c.args.slot named.at c.args.p) in
-    live-ends (offset (address_of c.args.p) c.args.p) c.args.fixed c.args.facts.fixed dead (state_at c.args.slots.now.states c.args.slot).body named.object named.body
+    let far = c.offset_in_slot.ensures.value ∙ sym
+    (offset-here c.args.slots.now (address_of c.args.p) c.args.slot named.at c.args.p) in
+    live-ends (offset (address_of c.args.p) c.args.p) c.args.fixed c.args.facts.fixed dead
+    (state_at c.args.slots.now.states c.args.slot).body named.object named.body
     (sym far ∙ c.if-offset_in_slot-ne0.false) (ap (λ f. f.fixed) named.known) c.if-facts-fixed.false
 
 pub returns-clause-served : goal.returns-clause-served

@@ -8,9 +8,11 @@ use Rattle.region_calls.proofs.loads.number_at.Goals as goal
 
 pub returns-in-Some-clause-answer : goal.returns-in-Some-clause-answer
 returns-in-Some-clause-answer c = λ o e.
-    let here = ap (λ w. number_in (cells_at c.args.at.offset w o.cells)) (sym c.width_of.ensures) ∙ sym (c.load.ensures.value o e) ∙ c.in-Some.is in
+    let here = ap (λ w. number_in (cells_at c.args.at.offset w o.cells)) (sym c.width_of.ensures)
+    ∙ sym (c.load.ensures.value o e) ∙ c.in-Some.is in
     ap (λ bits. Moved (record { bits = bits; pointer = false })) c.sign_extension.ensures
-    ∙ sym (load-answer c.args.kind c.requires.number (cells_at c.args.at.offset (width c.args.kind) o.cells) c.in-Some.number here)
+    ∙ sym (load-answer c.args.kind c.requires.number
+    (cells_at c.args.at.offset (width c.args.kind) o.cells) c.in-Some.number here)
 
 pub returns-in-Some-clause-suits : goal.returns-in-Some-clause-suits
 returns-in-Some-clause-suits c =
@@ -20,5 +22,6 @@ returns-in-Some-clause-suits c =
 
 pub returns-in-None-clause-answer : goal.returns-in-None-clause-answer
 returns-in-None-clause-answer c = λ o e.
-    let here = ap (λ w. number_in (cells_at c.args.at.offset w o.cells)) (sym c.width_of.ensures) ∙ sym (c.load.ensures.value o e) ∙ c.in-None.is in
+    let here = ap (λ w. number_in (cells_at c.args.at.offset w o.cells)) (sym c.width_of.ensures)
+    ∙ sym (c.load.ensures.value o e) ∙ c.in-None.is in
     sym (no-number-answer c.args.kind c.requires.number (cells_at c.args.at.offset (width c.args.kind) o.cells) here)

@@ -18,7 +18,8 @@ object c = record { elem = c.args.elem; fixed = c.args.fixed; cells = zeros c.ar
 
 pub returns-then-is_full-clause-answers : goal.returns-then-is_full-clause-answers
 unfolding AllocAnswers
-returns-then-is_full-clause-answers c = λ h k. full-same c.args.slots.now h k ∙ sym c.is_full.ensures ∙ c.if-is_full.true
+returns-then-is_full-clause-answers c = λ h k. full-same c.args.slots.now h k ∙ sym c.is_full.ensures
+    ∙ c.if-is_full.true
 
 pub returns-then-is_full-clause-served : goal.returns-then-is_full-clause-served
 returns-then-is_full-clause-served c = served-full c.args.slots.now c.args.elem c.args.size c.args.fixed
@@ -27,7 +28,8 @@ pub overflow_cast-size : goal.overflow_cast-size
 overflow_cast-size c = omega (arith, c.requires, size-bound c.args.slots.now.region c.law_slots.ensures.region)
 
 -- the slots as they are then
-after : (c : In_ok-slot) → c.take.new.self ≡ placed_in c.args.slots.now c.in_ok-slot.slot c.args.elem c.args.fixed c.args.size
+after : (c : In_ok-slot) → c.take.new.self ≡ placed_in c.args.slots.now c.in_ok-slot.slot c.args.elem c.args.fixed
+    c.args.size
 after c = c.in_ok-slot.ensures.placed
 
 -- what a word says that has the slot's address and version
@@ -46,13 +48,17 @@ unfolding AllocAnswers
 returns-clause-answers c = λ h k.
     let at = (goal.at.returns-clause-answers c).In_ok-slot in (
       full-same c.args.slots.now h k ∙ sym c.is_full.ensures ∙ c.if-is_full.false,
-      may-place c.args.slots.now c.in_ok-slot.slot (object at) c.word_of.result c.in_ok-slot.ensures.free c.in_ok-slot.ensures.next
+      may-place c.args.slots.now c.in_ok-slot.slot
+          (object at) c.word_of.result c.in_ok-slot.ensures.free c.in_ok-slot.ensures.next
           (there at c.word_of.result c.word_of.ensures.slot) (version at c.word_of.result c.word_of.ensures.version)
-          (c.word_of.ensures.address ∙ ap (λ (st : State). object_address (nth_slot st c.in_ok-slot.slot)) (after at)) c.in_ok-slot.ensures.rested h k,
+          (c.word_of.ensures.address ∙ ap (λ (st : State). object_address (nth_slot st c.in_ok-slot.slot))
+          (after at)) c.in_ok-slot.ensures.rested h k,
     )
 
 pub returns-clause-served : goal.returns-clause-served
 returns-clause-served c =
     let at = (goal.at.returns-clause-served c).In_ok-slot in
-    served-placed c.args.slots.now c.in_ok-slot.slot c.args.elem c.args.size c.args.fixed c.word_of.result c.in_ok-slot.ensures.free c.in_ok-slot.ensures.next
-    (there at c.word_of.result c.word_of.ensures.slot) (version at c.word_of.result c.word_of.ensures.version) c.take.new.self (after at)
+    served-placed c.args.slots.now c.in_ok-slot.slot c.args.elem c.args.size c.args.fixed c.word_of.result
+    c.in_ok-slot.ensures.free c.in_ok-slot.ensures.next
+    (there at c.word_of.result c.word_of.ensures.slot)
+    (version at c.word_of.result c.word_of.ensures.version) c.take.new.self (after at)
