@@ -1,5 +1,5 @@
 -- Where an access may be made, and what it is answered else.
-use Rattle.std.proofs.Common.{◌≡◌, ℕ, ◌+◌, ◌%◌, ◌<◌, ◌≤◌, Bool, true, false, cond, ◌&&◌, ◌==◌, length, Option, Some, None, refl, sym, ap, ◌∙◌, subst, ◌⊎◌, inl, inr, arith}
+use Rattle.std.proofs.Common.{◌≡◌, ℕ, ◌+◌, ◌%◌, ◌≤◌, Bool, true, false, cond, ◌&&◌, ◌==◌, length, Option, Some, None, refl, sym, ap, ◌∙◌, ◌⊎◌, inl, inr, arith}
 use Rattle.std.specs.Prelude.{nat_le, is_some}
 use Rattle.std.proofs.lemmas.Bool.{leb-true, eqb-true, and_parts}
 use Rattle.slot_headers.specs.Words.{address_of, version_of}
@@ -15,7 +15,6 @@ use Rattle.heap_model.specs.declared.calls.Reach.{Reach}
 use Rattle.heap_model.specs.declared.calls.Reply.TheVariants.{Report}
 use Rattle.heap_model.specs.declared.calls.ReportKind.{ReportKind}
 use Rattle.heap_model.specs.declared.calls.ReportKind.TheVariants.{Free, Null, Bounds, Align}
-use Rattle.object_slots.specs.SlotStates.{state_at}
 use Rattle.region_calls.specs.Naming.{IsAccess, IsPlace}
 use Rattle.region_calls.proofs.Standing.{live-named}
 use Rattle.region_calls.proofs.Ending.{same-some}

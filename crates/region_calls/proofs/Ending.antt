@@ -1,5 +1,5 @@
 -- What a call leaves that ends an object or does nothing, and what holds of all live objects after a change.
-use Rattle.std.proofs.Common.{◌≡◌, ℕ, ◌+◌, ◌<◌, ◌≤◌, Bool, true, false, cond, ◌==◌, List, [], ◌∷◌, ◌++◌, length, get_or, set, Option, Some, None, refl, sym, ap, ◌∙◌, subst, arith}
+use Rattle.std.proofs.Common.{◌≡◌, ℕ, ◌<◌, ◌≤◌, Bool, true, false, cond, ◌==◌, List, [], ◌∷◌, ◌++◌, length, set, Option, Some, None, refl, sym, ap, ◌∙◌, subst, arith}
 use Rattle.std.specs.Prelude.{nat_lt, is_some}
 use Rattle.std.proofs.lemmas.Bool.{eq-eqb, eqb-false, ltb-true}
 use Rattle.free_slots.specs.Slots.{last_resting}
@@ -9,12 +9,10 @@ use Rattle.slot_headers.specs.Cells.{Cell}
 use Rattle.heap_model.specs.Heap.{Body, with_dead}
 use Rattle.heap_model.specs.Answers.{Words, names, is_at, next}
 use Rattle.heap_model.specs.Forms.{suits_call}
-use Rattle.heap_model.specs.Layouts.{Layouts}
 use Rattle.heap_model.specs.Pieces.{HasWholePieces}
 use Rattle.heap_model.specs.State.{State, StandsFor, ChangesSlot, SlotState, fresh_slot, state_of, live_at, live_by}
 use Rattle.heap_model.specs.declared.calls.Call.{Call}
 use Rattle.heap_model.specs.declared.calls.Call.TheVariants.{Alloc, Free, Check, Load, Store, Add}
-use Rattle.heap_model.specs.declared.calls.Reply.{Reply}
 use Rattle.heap_model.specs.declared.calls.Reply.TheVariants.{NoSlot, Done, Report}
 use Rattle.heap_model.specs.declared.calls.ReportKind.{ReportKind}
 use Rattle.heap_model.proofs.State.{stands-died}
@@ -24,7 +22,7 @@ use Rattle.object_slots.specs.SlotStates.{state_at, next_object, without_object,
 use Rattle.region_calls.specs.declared.naming.NamedObject.{NamedObject}
 use Rattle.region_calls.specs.declared.naming.NamedObject.TheVariants.{Nothing, Dead, Live}
 use Rattle.region_calls.specs.Naming.{NamesLive, Names, nth_slot}
-use Rattle.region_calls.specs.Serving.{KnowsElements, HasPieces, IsServed}
+use Rattle.region_calls.specs.Serving.{IsServed}
 use Rattle.region_calls.proofs.Standing.{here, changed-set, push-at}
 use Rattle.region_calls.proofs.Freeing.{null-frees-nothing}
 

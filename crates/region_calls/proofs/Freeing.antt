@@ -7,14 +7,13 @@ use Rattle.slot_headers.specs.Words.{address_of, version_of}
 use Rattle.std.specs.Bool.{beq}
 use Rattle.heap_model.specs.Cells.{Outcome, Did, Refused}
 use Rattle.heap_model.specs.Heap.{Body, Object, free_outcome}
-use Rattle.heap_model.specs.Answers.{Name, Words, Live, Dead, next, answer_by, check_reply, found_reply, first_byte, offset, slot_at, reply, unless_null}
+use Rattle.heap_model.specs.Answers.{Name, Words, Live, Dead, next, answer_by, check_reply, first_byte, offset, slot_at, reply, unless_null}
 use Rattle.heap_model.specs.Layouts.{Layouts}
 use Rattle.heap_model.specs.State.{State, StandsFor}
-use Rattle.type_layout.specs.declared.preference.Bounds.{Bounds}
 use Rattle.heap_model.specs.declared.calls.Call.TheVariants.{Free, Check}
 use Rattle.heap_model.specs.declared.calls.Reply.{Reply}
-use Rattle.heap_model.specs.declared.calls.Reply.TheVariants.{Done, Report, Found}
-use Rattle.heap_model.specs.declared.calls.ReportKind.TheVariants.{Null, BadFree, DoubleFree, WrongType}
+use Rattle.heap_model.specs.declared.calls.Reply.TheVariants.{Done, Report}
+use Rattle.heap_model.specs.declared.calls.ReportKind.TheVariants.{Null, BadFree, DoubleFree}
 use Rattle.region_calls.specs.Naming.{IsInSlot, nth_slot}
 
 -- ---- at an object

@@ -1,16 +1,15 @@
 -- A new object in the heap of a region.
-use Rattle.std.proofs.Common.{◌≡◌, ℕ, zero, suc, ◌+◌, ◌-◌, ◌^◌, ◌<◌, ◌≤◌, Bool, true, false, cond, ◌||◌, ◌==◌, List, [], ◌∷◌, length, replicate, Some, None, is_some, refl, sym, ap, ◌∙◌, subst, arith}
+use Rattle.std.proofs.Common.{◌≡◌, ℕ, ◌+◌, ◌-◌, ◌^◌, ◌<◌, ◌≤◌, Bool, true, false, cond, ◌||◌, ◌==◌, length, Some, None, is_some, refl, sym, ap, ◌∙◌, subst, arith}
 use Rattle.std.specs.Prelude.{unwrap_or, Contains}
 use Rattle.std.proofs.lemmas.Bool.{and_from, eq-eqb, lt-ltb, false≢true}
-use Rattle.std.proofs.lemmas.List.Sums.{sum_by-cons}
 use Rattle.lowfat_regions.specs.Regions.{Slot, slot_of, slot_address, slots}
 use Rattle.slot_headers.specs.Words.{address_of, version_of}
-use Rattle.slot_headers.specs.Cells.{Byte, zeros}
+use Rattle.slot_headers.specs.Cells.{zeros}
 use Rattle.heap_model.specs.Heap.{Body, Object, is_full}
 use Rattle.heap_model.specs.Answers.{Name, Words, region, slot_at, new_object, next}
 use Rattle.heap_model.specs.Forms.{has_version}
 use Rattle.heap_model.specs.Legal.{MayPlace}
-use Rattle.heap_model.specs.State.{State, SlotState, StandsFor, ChangesSlot, state_of, live_objects, all_versions, one_if}
+use Rattle.heap_model.specs.State.{State, StandsFor, ChangesSlot, state_of, live_objects, all_versions, one_if}
 use Rattle.heap_model.specs.declared.calls.Call.TheVariants.{Alloc}
 use Rattle.heap_model.specs.declared.calls.Reply.TheVariants.{Placed}
 use Rattle.heap_model.proofs.Resting.{rest-count, not-resting}
@@ -20,7 +19,7 @@ use Rattle.heap_model.proofs.Pieces.{pieces-zeros}
 use Rattle.region_calls.specs.Naming.{nth_slot}
 use Rattle.region_calls.specs.Serving.{IsServed}
 use Rattle.region_calls.proofs.Ending.{holds-object}
-use Rattle.object_slots.specs.SlotStates.{state_at, count_live, next_object, with_object}
+use Rattle.object_slots.specs.SlotStates.{state_at, next_object, with_object}
 use Rattle.region_calls.proofs.Standing.{here, changed-object}
 
 -- whether a region is full, by its slots

@@ -1,21 +1,20 @@
 -- What a load gives of the cells at its place, and that the reply suits it.
-use Rattle.std.proofs.Common.{◌≡◌, ℕ, zero, suc, ◌+◌, ◌-◌, ◌*◌, ◌/◌, ◌%◌, ◌^◌, ◌<◌, ◌≤◌, Bool, true, false, cond, ◌&&◌, ◌==◌, ◌||◌, List, [], ◌∷◌, Option, Some, None, refl, sym, ap, ◌∙◌, subst, ◌⊎◌, inl, inr, arith}
+use Rattle.std.proofs.Common.{◌≡◌, ℕ, zero, suc, ◌+◌, ◌-◌, ◌*◌, ◌/◌, ◌%◌, ◌^◌, ◌<◌, ◌≤◌, Bool, true, false, cond, List, Option, Some, None, refl, sym, ap, ◌∙◌, subst, ◌⊎◌, inl, inr, arith}
 use Rattle.std.specs.Prelude.{nat_le}
-use Rattle.std.proofs.lemmas.Bool.{eq-eqb, lt-ltb, eqb-true, ne_eqb}
+use Rattle.std.proofs.lemmas.Bool.{eq-eqb, lt-ltb}
 use Rattle.std.specs.List.{AllByRecursion}
 use Rattle.slot_headers.specs.Words.{version_of}
-use Rattle.slot_headers.specs.Cells.{Cell, Part, bytes, parts, number_in, pointer_in, cells_at}
+use Rattle.slot_headers.specs.Cells.{Cell, bytes, parts, number_in, pointer_in, cells_at}
 use Rattle.slot_headers.specs.declared.value.Value as held
 use Rattle.slot_store.specs.Cells.{value_cells}
 use Rattle.slot_store.proofs.Digits.{number_in-bytes}
-use Rattle.heap_model.specs.Cells.{Loads, Adds, Number, Pointer, Gave, Refused, width, load_outcome, sign_extension, outcome_inside}
+use Rattle.heap_model.specs.Cells.{Loads, Adds, Number, Gave, Refused, width, load_outcome, sign_extension, outcome_inside}
 use Rattle.heap_model.specs.Answers.{reply}
-use Rattle.heap_model.specs.Forms.{is_number, can_give, is_access_report, suits_load, suits_add, gives_value}
+use Rattle.heap_model.specs.Forms.{is_number, can_give, is_access_report, suits_load, suits_add}
 use Rattle.heap_model.specs.Pieces.{IsByte, IsWhole, all_bytes, one_pointer, HasWholePieces}
 use Rattle.heap_model.specs.declared.calls.AccessKind.{AccessKind}
 use Rattle.heap_model.specs.declared.calls.AccessKind.TheVariants.{I8, U8, I16, U16, I32, U32, I64, U64, Ptr, Word}
 use Rattle.heap_model.specs.declared.calls.Value.{Value}
-use Rattle.heap_model.specs.declared.calls.Reply.{Reply}
 use Rattle.heap_model.specs.declared.calls.Reply.TheVariants.{Report, Value as Moved}
 use Rattle.heap_model.specs.declared.calls.ReportKind.{ReportKind}
 use Rattle.heap_model.specs.declared.calls.ReportKind.TheVariants.{Free, Null, Bounds, Align, PointerBytes, NotPointer}

@@ -1,5 +1,5 @@
 -- Each kind of call, as one step.
-use Rattle.std.proofs.Common.{◌≡◌, ℕ, Bool, true, false, Result, Ok, Err, refl, sym, ap, ◌∙◌, subst}
+use Rattle.std.proofs.Common.{◌≡◌, ℕ, Bool, true, Result, Ok, Err, refl, sym, ◌∙◌, subst}
 use Rattle.std.specs.Prelude.{IfOk, OnErr}
 use Rattle.heap_model.specs.Cells.{Adds, Loads, Stores}
 use Rattle.heap_model.specs.Answers.{Words, access, answer_by, datum, next}

@@ -1,5 +1,5 @@
 -- What a store and an addition leave.
-use Rattle.std.proofs.Common.{◌≡◌, ℕ, zero, suc, ◌+◌, ◌-◌, ◌*◌, ◌/◌, ◌%◌, ◌^◌, ◌<◌, ◌≤◌, Bool, true, false, cond, not, ◌&&◌, ◌||◌, ◌==◌, List, [], ◌∷◌, map, take, drop, length, set, Option, Some, None, refl, sym, ap, ◌∙◌, subst, arith}
+use Rattle.std.proofs.Common.{◌≡◌, ℕ, zero, suc, ◌+◌, ◌-◌, ◌*◌, ◌/◌, ◌%◌, ◌^◌, ◌<◌, ◌≤◌, Bool, true, false, cond, not, ◌||◌, ◌==◌, List, [], ◌∷◌, map, take, drop, length, Option, Some, None, refl, sym, ap, ◌∙◌, subst, arith}
 use Rattle.std.specs.Prelude.{nat_lt}
 use Rattle.std.specs.List.{AllByRecursion}
 use Rattle.std.proofs.lemmas.Bool.{eq-eqb, ltb-true}
@@ -10,23 +10,22 @@ use Rattle.slot_headers.specs.Cells.{Cell, Byte, Part, bytes, parts, number_in, 
 use Rattle.slot_store.specs.Cells.{value_cells, after_store}
 use Rattle.slot_store.proofs.Digits.{bytes-mod}
 use Rattle.heap_model.specs.Cells.{Act, Stores, Adds, Number, Pointer, width, cells_after_store, cells_after_add, access_cells}
-use Rattle.heap_model.specs.Heap.{Body, with_cells}
+use Rattle.heap_model.specs.Heap.{with_cells}
 use Rattle.heap_model.specs.Answers.{Words, after_access, datum, is_at, next, offset}
 use Rattle.heap_model.specs.Forms.{may_store, suits_add}
 use Rattle.heap_model.specs.Pieces.{IsByte, IsWhole, all_bytes, one_pointer, HasWholePieces}
 use Rattle.heap_model.specs.State.{State, StandsFor, ChangesSlot, SlotState, state_of, live_at}
 use Rattle.heap_model.specs.declared.calls.AccessKind.{AccessKind}
-use Rattle.heap_model.specs.declared.calls.AccessKind.TheVariants.{I8, U8, I16, U16, I32, U32, I64, U64, Ptr, Word}
+use Rattle.heap_model.specs.declared.calls.AccessKind.TheVariants.{I8, U8, I16, U16, I32, U32, Ptr, Word}
 use Rattle.heap_model.specs.declared.calls.Reach.{Reach}
 use Rattle.heap_model.specs.declared.calls.Value.{Value}
 use Rattle.heap_model.specs.declared.calls.Call.TheVariants.{Store, Add}
-use Rattle.heap_model.specs.declared.calls.Reply.{Reply}
 use Rattle.heap_model.specs.declared.calls.Reply.TheVariants.{Done, Value as Moved}
 use Rattle.heap_model.proofs.State.{stands-cells}
 use Rattle.heap_model.proofs.CellLists.{at-within}
 use Rattle.heap_model.proofs.Pieces.{width_some, in_piece, pieces-number, pieces-pointer, pieces-add}
 use Rattle.object_slots.specs.SlotStates.{state_at, with_cells_of, with_cells_in}
-use Rattle.region_calls.specs.Naming.{IsAccess, IsPlace, nth_slot}
+use Rattle.region_calls.specs.Naming.{IsAccess, nth_slot}
 use Rattle.region_calls.specs.Serving.{IsServed}
 use Rattle.region_calls.proofs.Standing.{here, changed-set}
 use Rattle.region_calls.proofs.Ending.{holds-cells}

@@ -1,7 +1,7 @@
-use Rattle.std.proofs.Common.{◌≡◌, ◌∙◌, ◌+◌, ◌%◌, ◌^◌, ◌*◌, ◌<◌, ◌≤◌, ℕ, true, false, Some, None, length, refl, sym, ap, subst, arith}
+use Rattle.std.proofs.Common.{◌≡◌, ◌∙◌, ◌+◌, ◌%◌, ◌^◌, ◌*◌, ◌<◌, ℕ, true, false, Some, None, refl, sym, ap, subst, arith}
 use Rattle.slot_headers.specs.Cells.{cells_at, number_in}
 use Rattle.slot_store.specs.Cells.{after_store}
-use Rattle.heap_model.specs.Cells.{Adds, width, sign_extension}
+use Rattle.heap_model.specs.Cells.{Adds, width}
 use Rattle.heap_model.specs.Forms.{suits_add}
 use Rattle.heap_model.specs.declared.calls.Call.TheVariants.{Add}
 use Rattle.heap_model.specs.declared.calls.Reply.TheVariants.{Value as Moved}

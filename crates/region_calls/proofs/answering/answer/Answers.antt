@@ -1,13 +1,12 @@
-use Rattle.std.proofs.Common.{◌≡◌, ◌∙◌, ℕ, true, Some, refl, sym, ap, subst}
+use Rattle.std.proofs.Common.{◌≡◌, ◌∙◌, true, Some, refl, sym, ap, subst}
 use Rattle.std.specs.Prelude.{IfOk}
-use Rattle.std.proofs.lemmas.Option.{same_Some}
 use Rattle.heap_model.specs.Answers.{Words, next}
 use Rattle.heap_model.specs.Forms.{region_for}
 use Rattle.heap_model.specs.Legal.{Answers, knows_types}
 use Rattle.heap_model.specs.Layouts.{layouts_of}
-use Rattle.heap_model.specs.State.{State, StandsFor}
+use Rattle.heap_model.specs.State.{StandsFor}
 use Rattle.heap_model.specs.declared.calls.Call.{Call}
-use Rattle.heap_model.specs.declared.calls.Call.TheVariants.{Alloc, Free, Check, Load, Store, Add}
+use Rattle.heap_model.specs.declared.calls.Call.TheVariants.{Alloc}
 use Rattle.region_calls.proofs.Knowing.{class-fits}
 use Rattle.region_calls.proofs.Stepping.{free-answers, check-answers, load-answers, store-answers, add-answers, check-next, load-next, elements-after, pieces-after}
 use Rattle.region_calls.proofs.answering.answer.Goals as goal

@@ -1,12 +1,10 @@
-use Rattle.std.proofs.Common.{◌≡◌, ◌∙◌, ◌==◌, ◌+◌, ◌≤◌, ◌<◌, ◌^◌, false, None, Some, length, refl, sym, ap, subst, arith}
+use Rattle.std.proofs.Common.{◌≡◌, ◌∙◌, ◌==◌, false, None, Some, refl, sym, ap, arith}
 use Rattle.std.proofs.lemmas.Bool.{eq-eqb, ne_eqb}
-use Rattle.c_types.specs.Table.{HasSize}
 use Rattle.lowfat_regions.specs.Regions.{object_address}
 use Rattle.slot_headers.specs.Words.{version_of, address_of}
-use Rattle.heap_model.specs.Answers.{answer_by, check_reply, found_reply, first_byte, offset}
+use Rattle.heap_model.specs.Answers.{found_reply, first_byte, offset}
 use Rattle.heap_model.specs.Layouts.{layouts_of}
 use Rattle.heap_model.specs.State.{live_by, dead_by}
-use Rattle.heap_model.specs.declared.calls.Call.TheVariants.{Check}
 use Rattle.object_slots.proofs.Laws.{size-bound}
 use Rattle.region_calls.specs.Naming.{nth_slot}
 use Rattle.region_calls.proofs.Standing.{live-named, offset-here}

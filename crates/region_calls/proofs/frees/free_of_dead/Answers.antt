@@ -1,4 +1,4 @@
-use Rattle.std.proofs.Common.{◌≡◌, ◌∙◌, sym, ap}
+use Rattle.std.proofs.Common.{◌∙◌, sym}
 use Rattle.slot_headers.specs.Words.{address_of}
 use Rattle.heap_model.specs.Answers.{offset}
 use Rattle.region_calls.proofs.Standing.{offset-here}

@@ -1,4 +1,4 @@
-use Rattle.std.proofs.Common.{◌≡◌, ◌∙◌, sym, ap, subst, refl}
+use Rattle.std.proofs.Common.{◌∙◌, sym, ap, subst, refl}
 use Rattle.slot_headers.specs.Words.{address_of}
 use Rattle.heap_model.specs.Answers.{offset}
 use Rattle.heap_model.specs.State.{State}

@@ -1,4 +1,4 @@
-use Rattle.std.proofs.Common.{◌≡◌, ◌∙◌, sym, ap}
+use Rattle.std.proofs.Common.{◌∙◌, sym}
 use Rattle.heap_model.specs.Cells.{Loads}
 use Rattle.region_calls.proofs.Accessing.{place-of, answered}
 use Rattle.region_calls.proofs.loads.load.Goals as goal

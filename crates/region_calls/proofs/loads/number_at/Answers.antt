@@ -1,4 +1,4 @@
-use Rattle.std.proofs.Common.{◌≡◌, ◌∙◌, ◌<◌, ◌^◌, ◌*◌, ℕ, true, false, sym, ap, subst}
+use Rattle.std.proofs.Common.{◌∙◌, ◌<◌, ◌^◌, ◌*◌, ℕ, false, sym, ap, subst}
 use Rattle.slot_headers.specs.Cells.{cells_at, number_in}
 use Rattle.heap_model.specs.Cells.{width}
 use Rattle.heap_model.specs.Forms.{can_give}

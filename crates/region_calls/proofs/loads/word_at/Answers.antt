@@ -1,4 +1,4 @@
-use Rattle.std.proofs.Common.{◌≡◌, ◌∙◌, ap, ◌<◌, ◌^◌, arith}
+use Rattle.std.proofs.Common.{◌∙◌, ap, ◌<◌, ◌^◌, arith}
 use Rattle.slot_headers.specs.Cells.{cells_at}
 use Rattle.heap_model.specs.Forms.{suits_load}
 use Rattle.heap_model.specs.declared.calls.AccessKind.TheVariants.{Word}

@@ -1,5 +1,4 @@
 use Rattle.std.proofs.Common.{arith}
-use Rattle.region_calls.specs.Naming.{nth_slot}
 use Rattle.region_calls.proofs.Standing.{offset-bound, address-bound}
 use Rattle.region_calls.proofs.naming.offset_in_slot.Goals as goal
 

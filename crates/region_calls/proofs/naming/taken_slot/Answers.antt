@@ -1,4 +1,4 @@
-use Rattle.std.proofs.Common.{◌<◌, ◌≤◌, ◌∙◌, Some, length, sym, ap, arith}
+use Rattle.std.proofs.Common.{◌<◌, ◌∙◌, Some, length, sym, ap, arith}
 use Rattle.region_calls.proofs.Standing.{in-slot, elsewhere, no-region}
 use Rattle.region_calls.proofs.naming.taken_slot.Goals as goal
 

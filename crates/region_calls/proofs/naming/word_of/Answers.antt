@@ -1,4 +1,4 @@
-use Rattle.std.proofs.Common.{◌≡◌, ◌∙◌, ◌+◌, ◌<◌, ap, arith}
+use Rattle.std.proofs.Common.{◌≡◌, ◌∙◌, ◌<◌, ap, arith}
 use Rattle.lowfat_regions.specs.Regions.{slot_of, slots, object_address}
 use Rattle.lowfat_regions.proofs.Addresses.{size_ok}
 use Rattle.slot_headers.specs.Words.{address_of}

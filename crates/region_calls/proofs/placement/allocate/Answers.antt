@@ -1,4 +1,4 @@
-use Rattle.std.proofs.Common.{◌≡◌, ◌∙◌, ◌+◌, ◌≤◌, ◌==◌, ◌-◌, ◌^◌, ℕ, Some, None, length, sym, ap, refl, arith}
+use Rattle.std.proofs.Common.{◌≡◌, ◌∙◌, ◌+◌, ℕ, Some, sym, ap, arith}
 use Rattle.heap_model.specs.Heap.{Body}
 use Rattle.heap_model.specs.Legal.{AllocAnswers}
 use Rattle.heap_model.specs.State.{State}

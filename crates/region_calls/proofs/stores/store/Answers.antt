@@ -1,4 +1,4 @@
-use Rattle.std.proofs.Common.{◌≡◌, ◌∙◌, sym, ap}
+use Rattle.std.proofs.Common.{sym}
 use Rattle.heap_model.specs.Answers.{datum}
 use Rattle.heap_model.specs.Cells.{Stores}
 use Rattle.heap_model.specs.declared.calls.Call.TheVariants.{Store}

@@ -1,4 +1,4 @@
-use Rattle.std.proofs.Common.{◌≡◌, ◌∙◌, ap}
+use Rattle.std.proofs.Common.{◌∙◌, ap}
 use Rattle.slot_store.specs.Cells.{after_store}
 use Rattle.object_slots.specs.SlotStates.{with_cells_in}
 use Rattle.region_calls.proofs.Writing.{stored-pointer, stored-number}
