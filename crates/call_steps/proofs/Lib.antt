@@ -1,0 +1,4 @@
+pub mod CutLemmas
+pub mod Orders
+pub mod Parameters
+pub mod Promotions

@@ -1,0 +1,4 @@
+pub mod Reading
+pub mod Tails
+pub mod Cuts
+pub mod Printing
