@@ -1,6 +1,4 @@
-pub mod Additions
 pub mod CutLemmas
 pub mod Orders
 pub mod Parameters
 pub mod Promotions
-pub mod Tellings

@@ -1,3 +1,0 @@
-pub mod Braces
-pub mod Objects
-pub mod Seen

@@ -1,5 +1,0 @@
-pub mod Called
-pub mod Nests
-pub mod Reads
-pub mod Specified
-pub mod Taking
