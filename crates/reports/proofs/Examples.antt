@@ -16,7 +16,7 @@ use Rattle.heap_model.specs.declared.calls.ReportKind.TheVariants.{WrongType, Bo
 use Rattle.plain_meaning.specs.declared.record.Report.{Report}
 use Rattle.plain_meaning.specs.declared.record.Ending.TheVariants.{Finished, Spent, Reported}
 use Rattle.reports.specs.TypeNames.{type_name}
-use Rattle.reports.specs.Objects.{object_named}
+use Rattle.placed_objects.specs.Placed.{object_named}
 use Rattle.reports.specs.Lines.{ending_line, lines_from}
 
 -- an object of four bytes in the first slot of region 1, freed, and another in the slot again

@@ -1,4 +1,3 @@
 pub mod TypeNames
 pub mod Objects
 pub mod Lines
-pub mod Meant

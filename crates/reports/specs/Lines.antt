@@ -11,7 +11,8 @@ use Rattle.plain_meaning.specs.declared.record.Ending.{Ending}
 use Rattle.plain_meaning.specs.declared.record.Ending.TheVariants.{Finished, Spent, Reported}
 use Rattle.plain_meaning.specs.declared.record.Record.{Record}
 use Rattle.reports.specs.TypeNames.{type_name}
-use Rattle.reports.specs.Objects.{object_named, pointer_text, bounds_text}
+use Rattle.placed_objects.specs.Placed.{object_named}
+use Rattle.reports.specs.Objects.{pointer_text, bounds_text}
 
 abbrev pub kind_name : ReportKind → List ℕ
 kind_name WrongType = codes "WrongType"

@@ -2,10 +2,10 @@
 
 ghost use Rattle.std.specs.Prelude.{◌≡◌, ◌++◌, ◌<◌, ◌^◌, OnOk, option_map};
 ghost use Rattle.reports.specs.Objects as spec;
-ghost use Rattle.reports.specs.Meant.{name_of};
+ghost use Rattle.placed_objects.specs.Meant.{name_of};
 
-use crate::object::Object;
 use heap_model::{Reach, offset_of};
+use placed_objects::Object;
 use plain_meaning::Text;
 use slot_headers::PtrWord;
 use std::alloc::{AllocError, Global};

@@ -3,11 +3,11 @@
 ghost use Rattle.std.specs.Prelude.{◌≡◌, ◌≤◌, ◌++◌, OnOk, length};
 ghost use Rattle.reports.specs.Lines as spec;
 
-use crate::object::object_named;
 use crate::pointer::{append_bounds, append_pointer};
 use crate::type_name::append_type;
 use c_types::TypeTable;
 use heap_model::{History, ReportKind};
+use placed_objects::object_named;
 use plain_meaning::{Report, Text};
 use std::alloc::{AllocError, Global};
 

@@ -1,6 +1,6 @@
 //! The laws of the objects that legal histories placed, for every preference.
 
-ghost use Rattle.reports.specs.Objects.{OneNamedLaw, PlacedLaw};
+ghost use Rattle.placed_objects.specs.Placed.{OneNamedLaw, PlacedLaw};
 
 use heap_model::law_apart;
 

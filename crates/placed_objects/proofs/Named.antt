@@ -10,9 +10,9 @@ use Rattle.lowfat_regions.specs.Regions.{Slot, slot_of}
 use Rattle.slot_headers.specs.Words.{version_of}
 use Rattle.heap_model.specs.Answers.{Name, is_at}
 use Rattle.heap_model.specs.declared.calls.Entry.{Entry}
-use Rattle.reports.specs.declared.object.Object.{Object}
-use Rattle.reports.specs.Objects.{placed_name, object_named}
-use Rattle.reports.specs.Meant.{name_of}
+use Rattle.placed_objects.specs.declared.object.Object.{Object}
+use Rattle.placed_objects.specs.Placed.{placed_name, object_named}
+use Rattle.placed_objects.specs.Meant.{name_of}
 
 -- no slot is that of no object
 pub find_nowhere : (version : ℕ) (names : List Name) → find (is_at None version) names ≡ None

@@ -1,9 +1,9 @@
 use Rattle.std.proofs.Common.{Some, option_map, ap, sym, ◌∙◌}
 use Rattle.heap_model.specs.Answers.{is_at}
-use Rattle.reports.specs.Objects.{object_named}
-use Rattle.reports.specs.Meant.{slot_name, name_of}
-use Rattle.reports.proofs.Named.{named_nowhere, named_by, found_here, not_here}
-use Rattle.reports.proofs.object.object_named.Goals as goal
+use Rattle.placed_objects.specs.Placed.{object_named}
+use Rattle.placed_objects.specs.Meant.{slot_name, name_of}
+use Rattle.placed_objects.proofs.Named.{named_nowhere, named_by, found_here, not_here}
+use Rattle.placed_objects.proofs.object.object_named.Goals as goal
 
 pub returns-in_err-slot : goal.returns-in_err-slot
 returns-in_err-slot c =

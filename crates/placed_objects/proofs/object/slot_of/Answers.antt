@@ -1,7 +1,7 @@
 use Rattle.std.proofs.Common.{ap, sym, ◌∙◌, option_map}
-use Rattle.reports.specs.Meant.{slot_name}
-use Rattle.reports.proofs.Slots.{in_regions, no_region, slot_is}
-use Rattle.reports.proofs.object.slot_of.Goals as goal
+use Rattle.placed_objects.specs.Meant.{slot_name}
+use Rattle.placed_objects.proofs.Slots.{in_regions, no_region, slot_is}
+use Rattle.placed_objects.proofs.object.slot_of.Goals as goal
 
 pub returns-in_err-region : goal.returns-in_err-region
 returns-in_err-region c =

@@ -1,9 +1,9 @@
 use Rattle.std.proofs.Common.{◌≡◌, drop, Some, find}
 use Rattle.std.specs.List.{filter_map}
 use Rattle.heap_model.specs.Answers.{is_at}
-use Rattle.reports.specs.Objects.{placed_name, object_named}
-use Rattle.reports.specs.Meant.{slot_name}
-use Rattle.reports.proofs.object.object_named.Given as goal
+use Rattle.placed_objects.specs.Placed.{placed_name, object_named}
+use Rattle.placed_objects.specs.Meant.{slot_name}
+use Rattle.placed_objects.proofs.object.object_named.Given as goal
 
 abbrev pub invariant-loop-at : goal.invariant-loop-at
 invariant-loop-at l =

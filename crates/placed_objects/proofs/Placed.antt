@@ -16,7 +16,7 @@ use Rattle.heap_model.specs.declared.calls.Call.TheVariants.{Alloc, Free, Store,
 use Rattle.heap_model.specs.declared.calls.Reply.{Reply}
 use Rattle.heap_model.specs.declared.calls.Reply.TheVariants.{Placed, Done, Value as Moved}
 use Rattle.heap_model.specs.declared.calls.Entry.{Entry}
-use Rattle.reports.specs.Objects.{name_in, placed_name, placed_names, PlacedLaw, OneNamedLaw}
+use Rattle.placed_objects.specs.Placed.{name_in, placed_name, placed_names, PlacedLaw, OneNamedLaw}
 
 -- how many names pass
 abbrev passing : (Name → Bool) → List Name → ℕ

@@ -1,11 +1,11 @@
-//! The objects that a history placed.
+//! The objects that a history placed, and which of them a word names.
 
 ghost use Rattle.std.specs.Prelude.{◌≡◌, ◌∷◌, [], option_map, find, Some};
 ghost use Rattle.std.specs.List.{filter_map};
 ghost use Rattle.heap_model.specs.Answers.{is_at};
 ghost use Rattle.lowfat_regions.specs.Regions as regions;
-ghost use Rattle.reports.specs.Objects as spec;
-ghost use Rattle.reports.specs.Meant.{slot_name, name_of};
+ghost use Rattle.placed_objects.specs.Placed as spec;
+ghost use Rattle.placed_objects.specs.Meant.{slot_name, name_of};
 
 use crate::slot::Slot;
 use heap_model::{Call, Entry, History, Reply};

@@ -1,8 +1,8 @@
 -- What the slots and the objects of the code mean.
 use Rattle.lowfat_regions.specs.Regions as regions
 use Rattle.heap_model.specs.Answers.{Name}
-use Rattle.reports.specs.declared.slot.Slot.{Slot}
-use Rattle.reports.specs.declared.object.Object.{Object}
+use Rattle.placed_objects.specs.declared.slot.Slot.{Slot}
+use Rattle.placed_objects.specs.declared.object.Object.{Object}
 
 abbrev pub slot_name : Slot → regions.Slot
 slot_name s = record { region = s.region; number = s.number }
