@@ -1,10 +1,1 @@
-pub mod Seen
-pub mod Numbers
-pub mod Standing
-pub mod Taking
-pub mod Placing
-pub mod Accessing
-pub mod Bounded
-pub mod Ending
-pub mod Freeing
-pub mod Stepping
+pub mod Keeping

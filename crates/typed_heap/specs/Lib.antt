@@ -1,5 +1,1 @@
-pub mod SlotStates
-pub mod View
-pub mod Naming
 pub mod Region
-pub mod Takes

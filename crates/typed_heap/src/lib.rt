@@ -1,11 +1,7 @@
-//! The heap of one region: objects with their types and bytes, and the calls on them.
+//! The heap of one region over its slots: objects with their types and bytes, and the calls on them.
 #![tactic(auto)]
 
-mod accesses;
-mod bytes;
 mod heap;
-mod object;
 mod sent;
-mod slots;
 
-pub use heap::RegionHeap;
+pub use heap::{RegionHeap, law_headers, law_pieces, law_stands};
