@@ -1,10 +1,14 @@
 //! Each public call below the top one, on its happy path: with memory to be had, none answers want of it.
 
+ghost use Rattle.std.specs.Prelude.{◌<◌, length};
+
 use c_lexer::{MAX_SOURCE_BYTES, law_strings, lex};
 use c_parser::parse;
+use c_types::TypeTable;
 use effsan_top::{
     CalmSink, CalmSource, InSource, MemSink, MemSource, OutSink, effsan_still, read_all, write_all,
 };
+use layout_table::Table;
 use plain_meaning::{Ending, Program, Record, Setting, Text, find_entry};
 use program_form::{FormError, program_of};
 use std::alloc::{AllocError, Global};
@@ -54,6 +58,17 @@ fn program_from(alloc: Global, text: &[u8]) -> Result<Program, Fail> {
     }
 }
 
+/// The record of a run over the basic types.
+fn record_of(alloc: Global, program: &Program, setting: &Setting) -> Result<Record, Fail>
+    requires { setting.now.entry < length program.now.functions }
+{
+    let types = TypeTable::new(alloc)?;
+    let Ok(table) = Table::build(alloc, &types) else {
+        return Err(Fail::from("table"));
+    };
+    Ok(run(alloc, &table, program, setting)?)
+}
+
 #[test]
 fn a_program_is_read_and_run(rt: HostRuntime) -> Result<(), Fail> {
     let text = b"void g(void) { } void f(void) { printf(\"%d\\n\", 3 + 4); }";
@@ -66,7 +81,7 @@ fn a_program_is_read_and_run(rt: HostRuntime) -> Result<(), Fail> {
     if entry as usize >= program.functions.len() {
         return Err(Fail::from("entry"));
     }
-    let done = run(rt.alloc(), &program, &setting)?;
+    let done = record_of(rt.alloc(), &program, &setting)?;
     assert_eq!(rt;
         done.endings.as_slice(),
         [Ending::Finished, Ending::Finished].as_slice()
@@ -99,7 +114,7 @@ fn with_ten_turns(alloc: Global, body: &str) -> Result<Record, Fail> {
         entry: 0,
         turns: 10,
     };
-    Ok(run(alloc, &program, &setting)?)
+    record_of(alloc, &program, &setting)
 }
 
 /// The first statement, and one that is repeated so many times; whether it ends, and how many calls were made.

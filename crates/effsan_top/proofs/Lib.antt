@@ -1,4 +1,5 @@
 mod Pieces
+mod Basics
 mod TextsExist
 mod Reading
 mod OneOrOther

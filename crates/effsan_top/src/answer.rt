@@ -10,15 +10,14 @@ ghost use Rattle.effsan_top.specs.Lines as spec;
 ghost use Rattle.effsan_top.specs.Statuses.{words_refused};
 ghost use Rattle.effsan_top.specs.Steps.{RunsText, RunsWords, HasTextCause, status_in};
 
-use crate::lines::printed;
 use crate::program::text_program;
 use crate::refusal::Refusal;
+use crate::running::run_program;
 use crate::served::{SoloPlay, served};
 use effs_io::{Source, read_all};
 use heap_model::{law_accesses_inside, law_checks};
-use plain_meaning::{Record, Setting, Text, find_entry, law_reported, law_wants};
+use plain_meaning::{Record, Setting, Text, find_entry, law_reported};
 use std::alloc::Global;
-use tree_walk::run;
 
 /// A run, and what is to be printed of it.
 #[derive(Debug, Drop)]
@@ -42,13 +41,11 @@ fn answer_text(alloc: Global, play: SoloPlay, text: &[u8]) -> Result<Answer, Ref
         return Err(Refusal::NotFound(name));
     };
     let setting = Setting { entry, turns };
-    let run = run(alloc, &program, &setting)?;
-    law_wants();
+    let answer = run_program(alloc, &program, &setting)?;
     law_reported();
     law_checks();
     law_accesses_inside();
-    let text = printed(alloc, &run)?;
-    Ok(Answer { run, text })
+    Ok(answer)
 }
 
 /// Reads the source and runs what the words ask for. The source is left alone until the words are judged.

@@ -6,6 +6,7 @@ mod faults;
 mod lines;
 mod program;
 mod refusal;
+mod running;
 mod served;
 mod statuses;
 mod still;

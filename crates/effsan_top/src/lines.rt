@@ -12,16 +12,16 @@ use reports::ending_lines;
 use std::alloc::{AllocError, Global};
 
 /// The texts of a run in order, then a line for each ending that is not `Finished`.
-pub fn printed(alloc: Global, run: &Record) -> Result<Text, AllocError>
-    requires { AllByRecursion (KnowsType basic_types) run.now.endings }
+pub fn printed(alloc: Global, run: &Record, types: &TypeTable) -> Result<Text, AllocError>
+    requires types { types.now ≡ basic_types }
+    requires known { AllByRecursion (KnowsType basic_types) run.now.endings }
     ensures { IfOk result (λ text. text ≡ spec.printed run.now) }
 {
     let mut all = Text::new(alloc);
     for text in run.texts.as_slice() {
         all.append(text.bytes())?;
     }
-    let types = TypeTable::new(alloc)?;
-    let lines = ending_lines(alloc, run, &types)?;
+    let lines = ending_lines(alloc, run, types)?;
     all.append(lines.bytes())?;
     Ok(all)
 }

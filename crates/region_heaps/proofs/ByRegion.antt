@@ -4,14 +4,13 @@ use Rattle.std.proofs.Math.ListN.{get_or-append}
 use Rattle.std.proofs.Math.Seq.{get_or-append_seam}
 use Rattle.std.proofs.lemmas.List.{get_or_default}
 use Rattle.std.proofs.lemmas.Bool.{cases_eq}
-use Rattle.c_types.specs.Table.{Types}
 use Rattle.heap_model.specs.Answers.{Words, next}
 use Rattle.heap_model.specs.Forms.{suits_call}
 use Rattle.heap_model.specs.Legal.{Answers}
-use Rattle.heap_model.specs.Layouts.{layouts_of}
+use Rattle.heap_model.specs.Layouts.{Layouts}
 use Rattle.heap_model.specs.State.{State, StandsFor}
 use Rattle.heap_model.specs.declared.calls.Reply.{Reply}
-use Rattle.typed_heap.specs.Takes.{KnowsElements}
+use Rattle.region_calls.specs.Serving.{KnowsElements}
 use Rattle.region_heaps.specs.Regions.{IsEmptyHeap, Steps, heap_of, no_heap}
 use Rattle.heap_model.specs.declared.calls.Call.{Call}
 
@@ -64,9 +63,9 @@ heap_of-set_other heaps r (suc m) heap low apart =
     get_or-set_other heaps (r - 1) m heap no_heap other
 
 -- what the heap of a region does, as a step of all heaps
-module _ (types : Types) (heaps : List State) (r : ℕ) (call : Call) (was now : State)
+module _ (layouts : Layouts) (heaps : List State) (r : ℕ) (call : Call) (was now : State)
     (low : 1 ≤ r) (high : r ≤ length heaps) (was_is : was ≡ heap_of heaps r) (region_is : (heap_of heaps r).region ≡ r)
-    (elements : KnowsElements types now) (same_region : now.region ≡ was.region) where
+    (elements : KnowsElements layouts now) (same_region : now.region ≡ was.region) where
   here : heap_of (set heaps (r - 1) now) r ≡ now
   here = heap_of-set heaps r now low high
 
@@ -77,16 +76,16 @@ module _ (types : Types) (heaps : List State) (r : ℕ) (call : Call) (was now :
   stood h stands = subst (λ s. StandsFor s h) (sym was_is) stands
 
   pub steps-from : {E : Type 0} (result : Result Reply E)
-      → IfOk result (λ reply. (h : Words) → StandsFor was h → Answers (layouts_of types) h was.region call reply)
+      → IfOk result (λ reply. (h : Words) → StandsFor was h → Answers layouts h was.region call reply)
       → IfOk result (λ reply. (worker number : ℕ) (h : Words) → StandsFor was h → StandsFor now (next worker number h call reply))
       → IfOk result (λ reply. suits_call call reply ≡ true)
-      → IfOk result (λ reply. Steps types heaps (set heaps (r - 1) now) r call reply)
+      → IfOk result (λ reply. Steps layouts heaps (set heaps (r - 1) now) r call reply)
   steps-from (Err e) answers nexts suits = tt
   steps-from (Ok reply) answers nexts suits = record {
     others = λ q apart. heap_of-set_other heaps r q now low apart;
     region_is = ap (λ h. h.region) here ∙ same_region ∙ region_was;
-    answers = λ h stands. subst (λ q. Answers (layouts_of types) h q call reply) region_was (answers h (stood h stands));
+    answers = λ h stands. subst (λ q. Answers layouts h q call reply) region_was (answers h (stood h stands));
     next = λ worker number h stands. subst (λ s. StandsFor s (next worker number h call reply)) (sym here) (nexts worker number h (stood h stands));
-    elements = subst (KnowsElements types) (sym here) elements;
+    elements = subst (KnowsElements layouts) (sym here) elements;
     suits = suits;
   }

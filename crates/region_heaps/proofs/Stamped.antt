@@ -1,5 +1,5 @@
 -- A history whose stamps are 1, 2, 3 and so on is stamped.
-use Rattle.std.proofs.Common.{◌≡◌, ℕ, suc, ◌<◌, Bool, true, false, cond, ◌&&◌, ◌||◌, ◌==◌, List, [], ◌∷◌, filter, ap, arith}
+use Rattle.std.proofs.Common.{◌≡◌, ℕ, suc, ◌+◌, ◌<◌, ◌≤◌, Bool, true, false, cond, ◌&&◌, ◌||◌, ◌==◌, List, [], ◌∷◌, length, filter, ap, arith}
 use Rattle.std.specs.Prelude.{nat_lt}
 use Rattle.std.specs.List.{AllByRecursion}
 use Rattle.std.proofs.lemmas.Bool.{lt-ltb}
@@ -47,3 +47,10 @@ IsStamped-from n es stamps = record {
   regions = λ r. StampsRise-filter (λ e. e.region == r) n es stamps;
   order = Rises-from n es stamps;
 }
+
+-- no stamp is above the last one, which the length tells
+pub bounded-from : (n most : ℕ) (es : List Entry) → StampsFrom n es → n + length es ≤ most + 1
+    → AllByRecursion (λ e. e.stamp ≤ most) es
+bounded-from n most [] stamps fits = tt
+bounded-from n most (e ∷ es) stamps fits =
+    (omega (arith, stamps.0, fits), bounded-from (suc n) most es stamps.1 (omega (arith, fits)))

@@ -1,15 +1,14 @@
 -- The heaps of the regions, as a list from region 1 on.
 use Rattle.std.specs.Prelude.{◌≡◌, ◌≢◌, ℕ, zero, suc, ◌≤◌, List, [], get_or, true}
-use Rattle.c_types.specs.Table.{Types}
 use Rattle.heap_model.specs.Heap.{empty}
 use Rattle.heap_model.specs.Answers.{Words, next}
 use Rattle.heap_model.specs.Forms.{suits_call}
 use Rattle.heap_model.specs.Legal.{Answers}
-use Rattle.heap_model.specs.Layouts.{layouts_of}
+use Rattle.heap_model.specs.Layouts.{Layouts}
 use Rattle.heap_model.specs.State.{State, StandsFor}
 use Rattle.heap_model.specs.declared.calls.Call.{Call}
 use Rattle.heap_model.specs.declared.calls.Reply.{Reply}
-use Rattle.typed_heap.specs.Takes.{KnowsElements}
+use Rattle.region_calls.specs.Serving.{KnowsElements}
 
 abbrev pub no_heap : State
 no_heap = record { region = 0; states = []; resting = [] }
@@ -30,10 +29,11 @@ abbrev pub AreEmpty : List State → ℕ → Type 0
 AreEmpty heaps last = (region : ℕ) → 1 ≤ region → region ≤ last → IsEmptyHeap (heap_of heaps region) region
 
 -- A call is answered by the heap of a region, and changes that heap alone.
-pub record Steps (types : Types) (old new : List State) (region : ℕ) (call : Call) (reply : Reply) : Type 0 where
+pub record Steps (layouts : Layouts) (old new : List State) (region : ℕ) (call : Call) (reply : Reply) : Type 0 where
   pub others : (r : ℕ) → r ≢ region → heap_of new r ≡ heap_of old r
   pub region_is : (heap_of new region).region ≡ region
-  pub answers : (h : Words) → StandsFor (heap_of old region) h → Answers (layouts_of types) h region call reply
-  pub next : (worker number : ℕ) (h : Words) → StandsFor (heap_of old region) h → StandsFor (heap_of new region) (next worker number h call reply)
-  pub elements : KnowsElements types (heap_of new region)
+  pub answers : (h : Words) → StandsFor (heap_of old region) h → Answers layouts h region call reply
+  pub next : (worker number : ℕ) (h : Words) → StandsFor (heap_of old region) h
+      → StandsFor (heap_of new region) (next worker number h call reply)
+  pub elements : KnowsElements layouts (heap_of new region)
   pub suits : suits_call call reply ≡ true

@@ -4,5 +4,6 @@
 mod heaps;
 mod numbers;
 mod regions;
+mod sent;
 
 pub use heaps::{RegionHeaps, law_history};

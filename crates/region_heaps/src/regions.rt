@@ -2,11 +2,13 @@
 
 ghost use Rattle.std.specs.Prelude.{◌≡◌, ◌+◌, ◌≤◌, Some, true, length, IfOk, OnErr};
 ghost use Rattle.heap_model.specs.Forms.{fits_call, region_for};
-ghost use Rattle.typed_heap.specs.Takes.{KnowsElements, KnowsTypes, moves_numbers};
+ghost use Rattle.heap_model.specs.Layouts.{layouts_of};
+ghost use Rattle.heap_model.specs.Legal.{knows_types};
+ghost use Rattle.region_calls.specs.Serving.{KnowsElements};
 ghost use Rattle.region_heaps.specs.Regions.{AreEmpty, Steps, heap_of};
 
-use c_types::TypeTable;
 use heap_model::{Call, Reply};
+use layout_table::Table;
 use lowfat_regions::REGIONS;
 use std::alloc::{AllocError, Global};
 use typed_heap::RegionHeap;
@@ -26,7 +28,7 @@ pub(crate) fn empty_heaps(alloc: Global) -> Result<Vec<RegionHeap>, AllocError>
 /// Makes a call on the heap of its region.
 pub(crate) fn step(
     heaps: &mut [RegionHeap],
-    types: &TypeTable,
+    table: &Table,
     region: u32,
     call: &Call,
 ) -> Result<Reply, AllocError>
@@ -35,11 +37,10 @@ pub(crate) fn step(
     requires region { region_for call.now ≡ Some region }
     requires of_region { (heap_of heaps.old region).region ≡ region }
     requires fits { fits_call call.now ≡ true }
-    requires numbers { moves_numbers call.now ≡ true }
-    requires types { KnowsTypes types.now call.now }
-    requires elements { KnowsElements types.now (heap_of heaps.old region) }
-    ensures steps { IfOk result (λ reply. Steps types.now heaps.old heaps.new region call.now reply) }
+    requires types { knows_types (layouts_of table.now) call.now ≡ true }
+    requires elements { KnowsElements (layouts_of table.now) (heap_of heaps.old region) }
+    ensures steps { IfOk result (λ reply. Steps (layouts_of table.now) heaps.old heaps.new region call.now reply) }
     ensures unchanged { OnErr result (heaps.new ≡ heaps.old) }
 {
-    heaps[region as usize - 1].step(types, call)
+    heaps[region as usize - 1].step(table, call)
 }

@@ -2,7 +2,7 @@
 use Rattle.std.proofs.Common.{◌≡◌, ℕ, ◌<◌, ◌≤◌, true, false, cond, refl, ap, ◌∙◌, arith}
 use Rattle.std.specs.Prelude.{nat_le}
 use Rattle.std.proofs.lemmas.Bool.Decides.{nat_tests}
-use Rattle.c_types.specs.Table.{basic_types, HasSize, shape_of}
+use Rattle.c_types.specs.Table.{shape_of}
 use Rattle.lowfat_regions.specs.Regions.{max_object_bytes, region_of}
 use Rattle.slot_headers.specs.Words.{address_of}
 use Rattle.heap_model.specs.Reaches.{may_escape, slot_bounds}
@@ -20,6 +20,7 @@ use Rattle.plain_meaning.specs.Tree.{Null, IsNull, Allocate, Free, Pass, Convert
 use Rattle.plain_meaning.specs.Points.{Go, Halt, Now, Ask, Asking, null, is_null, bit, escape, halt_with, check_for, checked_point, number_of, pointer_of}
 use Rattle.std.specs.Prelude.{pos, slice_index_or}
 use Rattle.plain_meaning.specs.Values.{Variables, zero_of, is_true, type_of}
+use Rattle.plain_meaning.specs.Run.{layouts}
 use Rattle.plain_meaning.specs.Meaning.{pointer, pointer_in, heap_call, allocation, release}
 use Rattle.tree_walk.specs.declared.walk.Walk.{Walk}
 use Rattle.tree_walk.specs.Steps.{Events, Passes, IsAbout}
@@ -114,10 +115,10 @@ module _ (walk : Walk) (line : ℕ) (p : CheckedPointer) where
 
 -- ---- what a call needs
 
-pub has_size : (target : Target) → HasSize basic_types (type_of target)
+pub has_size : (target : Target) → layouts.has (type_of target) ≡ true
 unfolding shape_of
-has_size Int = ((omega arith, omega arith), refl)
-has_size Char = ((omega arith, omega arith), refl)
+has_size Int = refl
+has_size Char = refl
 
 pub null_subject : (line elem : ℕ) → IsAbout (record { line = line; word = 0; reach = record { lo = 0; hi = 0 }; want = 0 }) (Allocate elem) null
 unfolding slot_bounds address_of region_of

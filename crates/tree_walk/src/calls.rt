@@ -17,7 +17,7 @@ use heap_model::{Call, Reply, Value};
 use lowfat_regions::MAX_OBJECT_BYTES;
 use plain_meaning::{CheckedPointer, Ending, Target};
 
-impl Walk {
+impl<'a> Walk<'a> {
     /// `malloc(size)` of an object of a type.
     pub(crate) fn allocate(
         &mut self,

@@ -11,7 +11,7 @@ use crate::stop::Stop;
 use crate::walk::Walk;
 use plain_meaning::{CheckedPointer, Expression, Pointer as NamedPointer};
 
-impl Walk {
+impl<'a> Walk<'a> {
     /// The value of an expression of a statement on this line. It goes as deep as expressions nest, which the parser bounds.
     #[cycle(values)]
     pub(crate) fn value(&mut self, line: u32, expression: &Expression) -> Result<i32, Stop>

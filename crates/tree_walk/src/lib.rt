@@ -3,6 +3,7 @@
 
 mod calls;
 mod expressions;
+mod heaps;
 mod operators;
 mod pointers;
 mod reports;

@@ -10,7 +10,7 @@ use crate::walk::Walk;
 use plain_meaning::{Expression, Pointer as NamedPointer, Scalar, Statement, Target};
 use std::alloc::Global;
 
-impl Walk {
+impl<'a> Walk<'a> {
     /// It goes as deep as statements nest, which the parser bounds.
     #[cycle(walk)]
     pub(crate) fn statement(&mut self, alloc: Global, statement: &Statement) -> Result<(), Stop>

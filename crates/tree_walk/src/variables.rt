@@ -9,7 +9,7 @@ use crate::walk::Walk;
 use plain_meaning::{CheckedPointer, Scalar};
 use std::alloc::AllocError;
 
-impl Walk {
+impl<'a> Walk<'a> {
     /// The number that a variable holds.
     pub(crate) fn number(&self, variable: usize) -> i32
         ensures { result ≡ value_of self.now.variables.items variable }

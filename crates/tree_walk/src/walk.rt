@@ -4,17 +4,19 @@ ghost use Rattle.std.specs.Prelude.{◌≡◌, ◌-◌, ◌<◌, [], ◌++◌, t
 ghost use Rattle.c_types.specs.Table.{basic_types};
 ghost use Rattle.heap_model.specs.Forms.{fits_call, suits_call};
 ghost use Rattle.heap_model.specs.Forms as forms;
-ghost use Rattle.typed_heap.specs.Takes.{KnowsTypes, moves_numbers};
+ghost use Rattle.heap_model.specs.Legal.{knows_types};
 ghost use Rattle.plain_meaning.specs.Meaning.{number_line};
+ghost use Rattle.plain_meaning.specs.Run.{layouts};
 ghost use Rattle.plain_meaning.specs.Tree.{Turn};
 ghost use Rattle.tree_walk.specs.Steps.{Leads, IsAsked, IsNoReport, no_value};
 
+use crate::heaps::ProgramHeaps;
 use crate::reports::Subject;
 use crate::stop::Stop;
 use byte_texts::Text;
 use heap_model::{Call, Reply};
+use layout_table::Table;
 use plain_meaning::{CheckedPointer, Ending, Scalar};
-use region_heaps::RegionHeaps;
 use std::alloc::{AllocError, Global};
 
 /// The worker whose calls the walk makes.
@@ -22,15 +24,16 @@ const WORKER: u32 = 1;
 
 /// The variables in scope, what was printed, how many turns are left, and the heaps with the history of all calls.
 #[derive(Drop)]
-pub(crate) struct Walk {
+pub(crate) struct Walk<'a> {
     pub(crate) variables: Vec<Scalar<CheckedPointer>>,
     pub(crate) text: Text,
     pub(crate) left: u32,
-    pub(crate) heaps: RegionHeaps,
+    pub(crate) heaps: ProgramHeaps<'a>,
 }
 
-impl Walk {
-    pub(crate) fn new(alloc: Global, turns: u32) -> Result<Walk, AllocError>
+impl<'a> Walk<'a> {
+    pub(crate) fn new(alloc: Global, table: &'a Table, turns: u32) -> Result<Walk<'a>, AllocError>
+        requires { table.now ≡ basic_types }
         ensures variables { IfOk result (λ walk. walk.variables.items ≡ []) }
         ensures text { IfOk result (λ walk. walk.text ≡ []) }
         ensures left { IfOk result (λ walk. walk.left ≡ turns) }
@@ -40,7 +43,7 @@ impl Walk {
             variables: Vec::new(alloc),
             text: Text::new(alloc),
             left: turns,
-            heaps: RegionHeaps::new(alloc)?,
+            heaps: ProgramHeaps::new(alloc, table)?,
         })
     }
 
@@ -71,8 +74,7 @@ impl Walk {
     pub(crate) fn ask(&mut self, call: &Call, subject: &Subject) -> Result<Reply, Stop>
         requires region { IsSome (forms.region_for call.now) }
         requires fits { fits_call call.now ≡ true }
-        requires numbers { moves_numbers call.now ≡ true }
-        requires types { KnowsTypes basic_types call.now }
+        requires types { knows_types layouts call.now ≡ true }
         ensures asked { IsAsked self.old call.now subject.now result self.new }
         ensures suits { IfOk result (λ reply. suits_call call.now reply ≡ true) }
         ensures told { IfOk result (λ reply. IsNoReport reply) }

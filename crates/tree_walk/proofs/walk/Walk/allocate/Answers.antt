@@ -1,6 +1,5 @@
-use Rattle.std.proofs.Common.{arith, ◌≡◌, ℕ, pos, false, Ok, Err, sym, ap, ◌∙◌, subst}
+use Rattle.std.proofs.Common.{arith, ◌≡◌, ℕ, pos, true, false, Ok, Err, sym, ap, ◌∙◌, subst}
 use Rattle.std.proofs.lemmas.Result.{err_from_is_err_and}
-use Rattle.c_types.specs.Table.{basic_types, HasSize}
 use Rattle.heap_model.specs.Forms.{region_for}
 use Rattle.heap_model.specs.declared.calls.Call.TheVariants as call
 use Rattle.plain_meaning.specs.declared.tree.Target.{Target}
@@ -9,6 +8,7 @@ use Rattle.plain_meaning.specs.declared.scalar.Scalar.TheVariants.{Number, Point
 use Rattle.plain_meaning.specs.declared.scalar.CheckedPointer.{CheckedPointer}
 use Rattle.plain_meaning.specs.Tree.{Allocate, Turn, Point}
 use Rattle.plain_meaning.specs.Points.{Ask, Asking, checked_point, checked_next, null}
+use Rattle.plain_meaning.specs.Run.{layouts}
 use Rattle.plain_meaning.specs.Values.{zero_of, type_of}
 use Rattle.plain_meaning.specs.Meaning.{allocation}
 use Rattle.tree_walk.specs.Steps.{Events, IsAsked, no_value, onward}
@@ -39,7 +39,7 @@ unfolding region_for
 ask-requires-clause-region c = class_of_some c.args.size (omega (arith, c.if-from-gt-MAX_OBJECT_BYTES.false, c.from.ensures))
 
 pub ask-requires-clause-types : goal.ask-requires-clause-types
-ask-requires-clause-types c = subst (HasSize basic_types) (sym c.type_of.ensures) (has_size c.args.target)
+ask-requires-clause-types c = subst (λ (t : ℕ). layouts.has t ≡ true) (sym c.type_of.ensures) (has_size c.args.target)
 
 pub returns-in_err-word-clause-leads : goal.returns-in_err-word-clause-leads
 returns-in_err-word-clause-leads c =

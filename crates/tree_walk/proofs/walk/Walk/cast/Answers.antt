@@ -1,6 +1,5 @@
-use Rattle.std.proofs.Common.{◌≡◌, ℕ, refl, sym, ap, ◌∙◌, subst}
+use Rattle.std.proofs.Common.{◌≡◌, ℕ, true, refl, sym, ap, ◌∙◌, subst}
 use Rattle.std.proofs.lemmas.Result.{err_from_is_err_and}
-use Rattle.c_types.specs.Table.{basic_types, HasSize}
 use Rattle.heap_model.specs.Forms.{region_for}
 use Rattle.heap_model.specs.declared.calls.Call.TheVariants as call
 use Rattle.plain_meaning.specs.declared.tree.Target.{Target}
@@ -10,6 +9,7 @@ use Rattle.plain_meaning.specs.declared.scalar.Scalar.TheVariants.{Pointer}
 use Rattle.plain_meaning.specs.declared.scalar.CheckedPointer.{CheckedPointer}
 use Rattle.plain_meaning.specs.Tree.{Convert, Stop, Turn, Point}
 use Rattle.plain_meaning.specs.Points.{Ask, Asking, checked_point, checked_next}
+use Rattle.plain_meaning.specs.Run.{layouts}
 use Rattle.plain_meaning.specs.Values.{zero_of, type_of}
 use Rattle.tree_walk.specs.Steps.{Events, no_value, onward}
 use Rattle.tree_walk.proofs.Passing.{nothing, passes_on, to_words, stops, ask_stops}
@@ -45,7 +45,7 @@ unfolding region_for
 ask-requires-clause-region c = refl
 
 pub ask-requires-clause-types : goal.ask-requires-clause-types
-ask-requires-clause-types c = subst (HasSize basic_types) (sym c.type_of.ensures) (has_size c.args.target)
+ask-requires-clause-types c = subst (λ (t : ℕ). layouts.has t ≡ true) (sym c.type_of.ensures) (has_size c.args.target)
 
 abbrev asks_it : (line : ℕ) (target : Target) (p : CheckedPointer) (want : ℕ) → want ≡ type_of target →
     checked_point tt line (Convert (type_of target)) (Pointer p) zero_of ≡ Ask (call.Check p.word (type_of target)) →
