@@ -1,8 +1,8 @@
-//! Tests of the heap's crates: types, layout, the heap of a region.
+//! Tests of the crates below the heap: layout, the forms of calls and replies, histories.
 #![tactic(auto)]
 
 #[cfg(test)]
-mod heap;
+mod calls;
 #[cfg(test)]
 mod layout;
 #[cfg(test)]
