@@ -1,0 +1,4 @@
+mod Starts
+mod Parts
+mod Joined
+mod Steps

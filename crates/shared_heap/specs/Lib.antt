@@ -1,0 +1,4 @@
+pub mod Regions
+pub mod Kept
+pub mod Shared
+pub mod Closing
