@@ -15,14 +15,15 @@ TIMED = ROOT / "scripts" / "timed"
 
 
 def below(names):
-    """The lines of crates.txt for these crates and those below them, by name."""
-    lines = dict(line.split(":") for line in (ROOT / "crates.txt").read_text().splitlines() if not line.startswith("#"))
+    """The lines of crates.txt for these crates and those below them, by name. Marks may stand behind a name."""
+    listed = [line for line in (ROOT / "crates.txt").read_text().splitlines() if line and not line.startswith("#")]
+    lines = {line.split(":")[0].split()[0]: line for line in listed}
     found, wanted = {}, list(names)
     while wanted:
         name = wanted.pop()
         if name in lines and name not in found:
             found[name] = lines[name]
-            wanted += lines[name].split()
+            wanted += lines[name].split(":")[1].split()
     return found
 
 
@@ -47,8 +48,8 @@ def make(scratch, name, uses, change=lambda text: text, copied=()):
     not_needed = shutil.ignore_patterns("incremental")
     for crate in lines:
         shutil.copytree(ROOT / "crates" / crate, scratch / "crates" / crate, ignore=not_needed)
-    lines[name] = " " + " ".join(uses)
-    (scratch / "crates.txt").write_text("".join(f"{crate}:{line}\n" for crate, line in lines.items()))
+    lines[name] = f"{name}: " + " ".join(uses)
+    (scratch / "crates.txt").write_text("".join(f"{line}\n" for line in lines.values()))
     subprocess.run(["rt", "run", "--", "0", "0", "0", "0"], cwd=folder, check=True, stdout=sys.stderr)
     return folder / "out" / name
 
