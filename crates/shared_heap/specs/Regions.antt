@@ -1,15 +1,12 @@
--- What is seen of a region of the shared heap, and what is kept true of it.
+-- What is seen of a region of the shared heap, and which calls it takes.
 use Rattle.std.specs.Prelude.{◌≡◌, ℕ, zero, suc, true, List, [], ◌∷◌, ◌++◌, Some}
 use Rattle.lowfat_regions.specs.Regions.{last_region}
 use Rattle.c_types.specs.Table.{Types}
 use Rattle.heap_model.specs.Forms.{fits_call, region_for}
-use Rattle.heap_model.specs.Heap.{empty}
 use Rattle.heap_model.specs.Layouts.{layouts_of}
-use Rattle.heap_model.specs.Legal.{IsLegal, knows_types, replay}
-use Rattle.heap_model.specs.State.{State, StandsFor}
+use Rattle.heap_model.specs.Legal.{knows_types}
 use Rattle.heap_model.specs.declared.calls.Call.{Call}
 use Rattle.heap_model.specs.declared.calls.Entry.{Entry}
-use Rattle.region_calls.specs.Serving.{KnowsElements}
 use Rattle.shared_heap.specs.declared.rules.Rules.{Rules}
 
 -- a region, the types that calls name, and the calls that were made, with their replies
@@ -17,13 +14,6 @@ pub record Region : Type 0 where
   pub number : ℕ
   pub types : Types
   pub entries : List Entry
-
--- The calls of the entries are legal. The slots stand for the heap that they leave, also of which slots rest: those of the
--- region's last deaths. The table has the element type of each live object.
-pub record StandsAfter (types : Types) (heap : State) (entries : List Entry) : Type 0 where
-  pub legal : IsLegal (layouts_of types) entries
-  pub stands : StandsFor heap (replay empty entries)
-  pub elements : KnowsElements (layouts_of types) heap
 
 -- the rules of a region
 abbrev pub rules_of : Region → Rules

@@ -1,7 +1,10 @@
-use Rattle.std.proofs.Common.{◌≡◌, List, [], ◌∷◌, ◌++◌, Some, ap, ◌∙◌, rules}
+use Rattle.std.proofs.Common.{◌≡◌, List, Some, ◌∙◌, ◌++◌, ◌∷◌, [], ap, rules}
 use Rattle.heap_model.specs.declared.calls.Entry.{Entry}
 use Rattle.heap_model.specs.Forms.{region_for}
-use Rattle.shared_heap.proofs.Steps.{stands-next}
+use Rattle.heap_model.specs.Layouts.{layouts_of}
+use Rattle.typed_heap.specs.Histories.{IsHeapOf}
+use Rattle.typed_heap.proofs.Histories.{with-entry}
+use Rattle.shared_heap.proofs.Steps.{kept-next}
 use Rattle.shared_heap.proofs.region.HeldRegionKept.step.Goals as goal
 
 pub invariant_of-self-2 : goal.invariant_of-self-2
@@ -15,6 +18,11 @@ invariant_of-self-2 c =
       call = c.args.call.now;
       reply = c.in_ok-reply.reply;
     } in
-    stands-next c.self.inside.table.now c.self.inside.heap c.step.new.self c.self.inside.history.entries _ e c.self.invariant
-    (c.push.ensures.entries ∙ ap (λ (l : List Entry). l ++ e ∷ []) c.room.ensures.entries) home
-    c.requires.call.fits (search rules) (search rules) c.in_ok-reply.ensures.next c.in_ok-reply.ensures.elements
+    let layouts = layouts_of c.self.inside.table.now in
+    let now = c.step.new.self in
+    let number : now.region ≡ c.region.result = search rules in
+    let was : IsHeapOf layouts c.self.inside.heap c.region.result c.self.inside.history.entries = search rules in
+    let next = with-entry layouts c.self.inside.heap now c.self.inside.history.entries e home c.requires.call.fits
+    (search rules) (search rules) c.in_ok-reply.ensures.next c.in_ok-reply.ensures.elements number was in
+    kept-next layouts now c.region.result _ _ number
+    (c.push.ensures.entries ∙ ap (λ (l : List Entry). l ++ e ∷ []) c.room.ensures.entries) next
