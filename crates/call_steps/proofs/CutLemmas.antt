@@ -17,7 +17,8 @@ use Rattle.call_steps.specs.Cuts.{AreCut, built_in_call, text_call}
 use Rattle.call_steps.specs.Tails.{callee_by, callee_of}
 
 module _ (source : Source) (type_phrase : Where → State → TypePhrase → Answer (Made × State))
-    (inner : Where → State → Expression → Answer (Judged × State)) (w : Where) (here : ℕ) (s : State) (es : List Expression)
+    (inner : Where → State → Expression → Answer (Judged × State)) (w : Where) (here : ℕ) (s : State)
+    (es : List Expression)
   where
     text_by : (named_at : ℕ) (f : DeclaredFunction) (n : Option ℕ) →
         rule.call_of source type_phrase inner w here named_at s (Some f) n es

@@ -17,7 +17,8 @@ use Rattle.call_steps.specs.declared.callees.Callee.{Callee}
 use Rattle.call_steps.specs.Tails.{callee_of, call_of_other, call_of_text, given_call, print_of_none}
 
 module _ (source : Source) (type_phrase : Where → State → TypePhrase → Answer (Made × State))
-    (inner : Where → State → Expression → Answer (Judged × State)) (w : Where) (here : ℕ) (s : State) (es : List Expression)
+    (inner : Where → State → Expression → Answer (Judged × State)) (w : Where) (here : ℕ) (s : State)
+    (es : List Expression)
   where
     abbrev pub text_call : Answer Callee → Answer (Operand × State)
     text_call callee =

@@ -2,17 +2,20 @@
 
 ghost use Rattle.std.specs.Prelude.{◌≡◌, IfOk};
 ghost use Rattle.call_steps.specs.Tails as tails;
-ghost use Rattle.rule_answers.specs.Gives.{GivesValue};
+ghost use Rattle.rule_answers.specs.Gives.{Gives, GivesValue};
 ghost use Rattle.scoped_meanings.specs.Meanings.{declared_at};
+ghost use Rattle.static_rules.specs.declared.states.State.{State as Around};
 
+use crate::answers::answered;
 use c_types::TypeNo;
 use rule_answers::{fault, out_of_memory};
 use sqlite_items::Items;
-use static_rules::{CheckError, CheckKind, DeclaredFunction, State};
+use static_rules::{Arguments, CheckError, CheckKind, DeclaredFunction, Operand, State, Where};
 use std::alloc::{AllocError, Global};
+use tree_building::call;
 
-/// A function of the text that is called: its number among those that the text defines, the type of its result, and those of
-/// its parameters.
+/// A function of the text that is called: its number among those that the text defines, the type of its result, and
+/// those of its parameters.
 #[derive(Drop)]
 pub struct Callee {
     pub number: u32,
@@ -32,7 +35,8 @@ fn defined(alloc: Global, function: &DeclaredFunction, number: u32) -> Result<Ca
     })
 }
 
-/// The function that is called, by its place in the order of first declarations: one that the text never defines is unknown.
+/// The function that is called, by its place in the order of first declarations: one that the text never defines is
+/// unknown.
 pub fn function_called(
     alloc: Global,
     state: &State,
@@ -50,5 +54,22 @@ pub fn function_called(
             None => Err(fault(CheckKind::Unknown, named_at)),
         },
         None => Err(fault(CheckKind::Unknown, named_at)),
+    }
+}
+
+/// The call of a function of the text: the type of its result, its number, and what was read of the arguments.
+#[tactic(auto, using(crate::proofs::Tellings::told_behind))]
+pub fn call_of_text(
+    at: Where,
+    here: u32,
+    kind: TypeNo,
+    number: u32,
+    arguments: Arguments,
+) -> Result<Operand, CheckError>
+    ensures { (s : Around) → Gives (tails.call_of_text at here kind number s arguments) result s }
+{
+    match answered(at, here, arguments) {
+        Ok(values) => Ok(call(at.line, kind, number, values)),
+        Err(error) => Err(error),
     }
 }

@@ -2,13 +2,19 @@
 //! (C11 7.21.7.8, 7.21.7.9, 7.22.3, 7.24).
 
 ghost use Rattle.std.specs.Prelude.{◌≡◌};
-ghost use Rattle.rule_answers.specs.Gives.{Makes};
+ghost use Rattle.call_steps.specs.Tails as tails;
+ghost use Rattle.rule_answers.specs.Gives.{Gives, Makes};
 ghost use Rattle.static_rules.specs.Calls as spec;
 
+use crate::answers::answered;
+use c_tree::Value;
 use c_types::TypeNo;
 use operand_plans::VOID;
-use rule_answers::pointer_to;
-use static_rules::{BuiltIn, CheckError, State};
+use rule_answers::{fault, out_of_memory, pointer_to};
+use sqlite_items::Items;
+use static_rules::{Arguments, BuiltIn, CheckError, CheckKind, Operand, State, Where};
+use std::alloc::Global;
+use tree_building::given_node;
 
 /// Whether the result is a `void *`.
 fn gives_any(which: BuiltIn) -> bool
@@ -31,5 +37,45 @@ pub fn result_type(state: &mut State, which: BuiltIn) -> Result<TypeNo, CheckErr
         }
     } else {
         Ok(0)
+    }
+}
+
+/// The node of a call whose arguments fit.
+fn given_made(
+    alloc: Global,
+    state: &mut State,
+    at: Where,
+    here: u32,
+    which: BuiltIn,
+    values: Items<Value>,
+) -> Result<Operand, CheckError>
+    ensures { Gives (spec.given_node at here which values (spec.result_type state.old which)) result state.new }
+{
+    let any = match result_type(state, which) {
+        Ok(any) => any,
+        Err(_) => return Err(out_of_memory()),
+    };
+    match given_node(alloc, at.line, any, which, values) {
+        Ok(Some(x)) => Ok(x),
+        Ok(None) => Err(fault(CheckKind::BadCall, here)),
+        Err(_) => Err(out_of_memory()),
+    }
+}
+
+/// The call of a function that each text has, with what was read of the arguments.
+#[tactic(auto, using(crate::proofs::Tellings::told_behind))]
+pub fn given_call(
+    alloc: Global,
+    state: &mut State,
+    at: Where,
+    here: u32,
+    which: BuiltIn,
+    arguments: Arguments,
+) -> Result<Operand, CheckError>
+    ensures { Gives (tails.given_call at here which state.old arguments) result state.new }
+{
+    match answered(at, here, arguments) {
+        Ok(values) => given_made(alloc, state, at, here, which, values),
+        Err(error) => Err(error),
     }
 }

@@ -1,0 +1,4 @@
+pub mod Adds
+pub mod Braces
+pub mod Objects
+pub mod Seen
