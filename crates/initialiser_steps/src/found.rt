@@ -105,11 +105,7 @@ impl Found {
 
     /// Braces end that began on a line, where this waited for their end. What does not fit within them is a fault
     /// there.
-    #[tactic(auto, using(
-        crate::proofs::FoundLemmas::after_braces,
-        crate::proofs::FoundLemmas::braces_tell,
-        crate::proofs::FoundLemmas::braces_pass
-    ))]
+    #[tactic(auto, using(crate::proofs::FoundLemmas::after_braces, crate::proofs::FoundLemmas::braces_tell, crate::proofs::FoundLemmas::braces_pass))]
     pub fn end_braces(&mut self, here: u32, waits: Option<Unfit>) -> Result<(), CheckError>
         ensures answer { (before within : Finding) (s : Whole) → IsWithin self.old before within →
             GivesState (in_braces here (within, s)) result (within, s) }

@@ -6,6 +6,8 @@ mod asking;
 #[cfg(test)]
 mod legal;
 #[cfg(test)]
+mod meeting;
+#[cfg(test)]
 mod rows;
 #[cfg(test)]
 mod scripts;

@@ -1,4 +1,5 @@
 use crate::legal::{calls_of, is_legal, last_reply};
+use crate::meeting::{Stamps, run_meeting};
 use crate::scripts::Script;
 use crate::threads::run;
 use c_types::TypeTable;
@@ -77,6 +78,26 @@ fn eight_threads_make_all_calls_in_all_regions(rt: HostRuntime) -> Result<(), Fa
         let (history, made) = run(&rt, rt.alloc(), &table, &OpenGate, 8, 1000, &scripts)?;
         is_record(&rt, rt.alloc(), &history, made.as_slice(), 2378)?;
         assert_eq!(rt; last_reply(&history), number(216));
+    }
+    Ok(())
+}
+
+#[test]
+fn a_pass_that_met_another_goes_on_after_its_last_stamp(rt: HostRuntime) -> Result<(), Fail> {
+    let table = table_of(rt.alloc())?;
+    let (history, stamps) = run_meeting(&rt, rt.alloc(), &table)?;
+    let wanted = Stamps {
+        first: 1,
+        met: 1,
+        second: 2,
+    };
+    assert_eq!(rt; stamps, wanted);
+    is_record(&rt, rt.alloc(), &history, &[1, 1], 2)?;
+    let mut stamp = 0u64;
+    for at in 0..history.len() {
+        let entry = history.get(at);
+        stamp = stamp.saturating_add(1);
+        assert_eq!(rt; (entry.stamp, u64::from(entry.region)), (stamp, stamp));
     }
     Ok(())
 }

@@ -80,31 +80,31 @@ misplaced_gives here around labels s (Err e) told =
 module _ (here : ℕ) (around : Inside) (labels new : Labels) (s : State) (result : Result Statement CheckError)
     (place : Option ℕ)
   where
-  pub default_in_place : (kind : ℕ) → place ≡ Some kind →
-      GivesLabelled (default_by here around labels s (Some kind)) result new s →
-      GivesLabelled (default_by here around labels s place) result new s
-  default_in_place kind is given =
-      subst (λ (d : Option ℕ). GivesLabelled (default_by here around labels s d) result new s) (sym is) given
+    pub default_in_place : (kind : ℕ) → place ≡ Some kind →
+        GivesLabelled (default_by here around labels s (Some kind)) result new s →
+        GivesLabelled (default_by here around labels s place) result new s
+    default_in_place kind is given =
+        subst (λ (d : Option ℕ). GivesLabelled (default_by here around labels s d) result new s) (sym is) given
 
-  pub case_in_place : (kind : ℕ) (n value : ℤ) → place ≡ Some kind → value ≡ wrapped kind n →
-      GivesLabelled (case_of here labels value s) result new s →
-      GivesLabelled (case_by here around labels place (n, s)) result new s
-  case_in_place kind n value is converted given =
-      subst (λ (d : Option ℕ). GivesLabelled (case_by here around labels d (n, s)) result new s) (sym is)
-      (subst (λ (v : ℤ). GivesLabelled (case_of here labels v s) result new s) converted given)
+    pub case_in_place : (kind : ℕ) (n value : ℤ) → place ≡ Some kind → value ≡ wrapped kind n →
+        GivesLabelled (case_of here labels value s) result new s →
+        GivesLabelled (case_by here around labels place (n, s)) result new s
+    case_in_place kind n value is converted given =
+        subst (λ (d : Option ℕ). GivesLabelled (case_by here around labels d (n, s)) result new s) (sym is)
+        (subst (λ (v : ℤ). GivesLabelled (case_of here labels v s) result new s) converted given)
 
 -- one that is misplaced leaves the labels
 module _ (here : ℕ) (around : Inside) (labels : Labels) (s : State) (result : Result Statement CheckError)
     (place : Option ℕ)
   where
-  pub default_misplaced : place ≡ None → Gives (misplaced_label here around) result s →
-      GivesLabelled (default_by here around labels s place) result labels s
-  default_misplaced is given =
-      subst (λ (d : Option ℕ). GivesLabelled (default_by here around labels s d) result labels s) (sym is)
-      (misplaced_gives here around labels s result given)
+    pub default_misplaced : place ≡ None → Gives (misplaced_label here around) result s →
+        GivesLabelled (default_by here around labels s place) result labels s
+    default_misplaced is given =
+        subst (λ (d : Option ℕ). GivesLabelled (default_by here around labels s d) result labels s) (sym is)
+        (misplaced_gives here around labels s result given)
 
-  pub case_misplaced : (n : ℤ) → place ≡ None → Gives (misplaced_label here around) result s →
-      GivesLabelled (case_by here around labels place (n, s)) result labels s
-  case_misplaced n is given =
-      subst (λ (d : Option ℕ). GivesLabelled (case_by here around labels d (n, s)) result labels s) (sym is)
-      (misplaced_gives here around labels s result given)
+    pub case_misplaced : (n : ℤ) → place ≡ None → Gives (misplaced_label here around) result s →
+        GivesLabelled (case_by here around labels place (n, s)) result labels s
+    case_misplaced n is given =
+        subst (λ (d : Option ℕ). GivesLabelled (case_by here around labels d (n, s)) result labels s) (sym is)
+        (misplaced_gives here around labels s result given)
