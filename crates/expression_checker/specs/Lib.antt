@@ -1,0 +1,4 @@
+pub mod Called
+pub mod Nests
+pub mod Reads
+pub mod Taking
