@@ -1,6 +1,0 @@
-mod ByCallee
-mod CalledNames
-mod Lists
-mod LiteralSteps
-pub mod Steps
-mod Taken

@@ -1,4 +1,0 @@
-pub mod Called
-pub mod Nests
-pub mod Reads
-pub mod Taking
